@@ -1,0 +1,10 @@
+-- Document 01 as definitions, in its order.
+pub mod Limits
+pub mod Arithmetic
+pub mod Book
+pub mod Sheet
+pub mod Clearing
+pub mod Machine
+pub mod Answers
+pub mod Bytes
+pub mod Calls

@@ -1,0 +1,8 @@
+-- Facts about numbers, tests, sums, lists and refusals that several crates cite.
+pub mod Tests
+pub mod Sum
+pub mod Extremes
+pub mod SignedTests
+pub mod IntegerSize
+pub mod Write
+pub mod Refusal

@@ -1,0 +1,89 @@
+-- What a test of two signed numbers tells, as the borrow checker hands it over: each number that is no literal is read back from its bits, `toZ w (ofZ w x)`.
+-- `x < y` and `y <= x` in the code are ltZ and leZ of the readings. Each law turns the test's flag into that of the other test, of the numbers themselves.
+use mathlib.Core.Path.{_≡_, refl, sym, ap, _∙_, subst}
+use mathlib.Core.Bool.{Bool, true, false, true≢false}
+use lib.IntN.{ℤ, pos, negsuc, natAbs}
+use lib.Signed.{ltZ, leZ, nonNeg, mag}
+use Prim.Native.Nat.{_<_, _^_}
+use lib.Dec.{T, ltb, eqb}
+use Rattle.definitions.specs.Arithmetic.{eqZ}
+use borrow.Author.Tests.{ltb-true, ltb-false, le-leb, lt-leb, eqb-true, eq-eqb}
+use mir.Syntax.{Width}
+use mir.Val.{SFits, Fits, toZ, ofZ, bits, hbits}
+use mir.Facts.{toZ-ofZ, fits-natAbs}
+
+pub lt-not-le : (a b : ℤ) → ltZ a b ≡ true → leZ b a ≡ false
+lt-not-le (pos a) (pos b) e = lt-leb b a (ltb-true a b e)
+lt-not-le (pos a) (negsuc b) e = sym e
+lt-not-le (negsuc a) (pos b) e = refl
+lt-not-le (negsuc a) (negsuc b) e = lt-leb a b (ltb-true b a e)
+
+pub not-lt-le : (a b : ℤ) → ltZ a b ≡ false → leZ b a ≡ true
+not-lt-le (pos a) (pos b) e = le-leb b a (ltb-false a b e)
+not-lt-le (pos a) (negsuc b) e = refl
+not-lt-le (negsuc a) (pos b) e = sym e
+not-lt-le (negsuc a) (negsuc b) e = le-leb a b (ltb-false b a e)
+
+-- the test's left side, or its right side, is a variable
+pub left : {w : Width} {x : ℤ} (y : ℤ) {t : Bool} → SFits w x → ltZ (toZ w (ofZ w x)) y ≡ t → ltZ x y ≡ t
+left y f e = ap (λ (z : ℤ). ltZ z y) (sym (toZ-ofZ f)) ∙ e
+
+pub right : {w : Width} (x : ℤ) {y : ℤ} {t : Bool} → SFits w y → ltZ x (toZ w (ofZ w y)) ≡ t → ltZ x y ≡ t
+right x f e = ap (λ (z : ℤ). ltZ x z) (sym (toZ-ofZ f)) ∙ e
+
+-- `x < y`, `y` a literal, taken and not taken
+pub below : {w : Width} {x : ℤ} (y : ℤ) → SFits w x → ltZ (toZ w (ofZ w x)) y ≡ true → leZ y x ≡ false
+below {x = x} y f e = lt-not-le x y (left y f e)
+
+pub not-below : {w : Width} {x : ℤ} (y : ℤ) → SFits w x → ltZ (toZ w (ofZ w x)) y ≡ false → leZ y x ≡ true
+not-below {x = x} y f e = not-lt-le x y (left y f e)
+
+-- `x < y`, `x` a literal
+pub above : {w : Width} (x : ℤ) {y : ℤ} → SFits w y → ltZ x (toZ w (ofZ w y)) ≡ true → leZ y x ≡ false
+above x {y = y} f e = lt-not-le x y (right x f e)
+
+pub not-above : {w : Width} (x : ℤ) {y : ℤ} → SFits w y → ltZ x (toZ w (ofZ w y)) ≡ false → leZ y x ≡ true
+not-above x {y = y} f e = not-lt-le x y (right x f e)
+
+-- both variables
+pub both-below : {w : Width} {x y : ℤ} → SFits w x → SFits w y → ltZ (toZ w (ofZ w x)) (toZ w (ofZ w y)) ≡ true → leZ y x ≡ false
+both-below {x = x} f g e = above x g (left _ f e)
+
+pub both-not-below : {w : Width} {x y : ℤ} → SFits w x → SFits w y → ltZ (toZ w (ofZ w x)) (toZ w (ofZ w y)) ≡ false → leZ y x ≡ true
+both-not-below {x = x} f g e = not-above x g (left _ f e)
+
+-- ---- equality: the code compares the bits
+eqZ-refl : (x : ℤ) → eqZ x x ≡ true
+eqZ-refl (pos a) = eq-eqb a a refl
+eqZ-refl (negsuc a) = eq-eqb a a refl
+
+pub eqZ-true : (x y : ℤ) → eqZ x y ≡ true → x ≡ y
+eqZ-true (pos a) (pos b) e = ap pos (eqb-true a b e)
+eqZ-true (pos a) (negsuc b) e = absurd (true≢false (sym e))
+eqZ-true (negsuc a) (pos b) e = absurd (true≢false (sym e))
+eqZ-true (negsuc a) (negsuc b) e = ap negsuc (eqb-true a b e)
+
+pub same-bits : {w : Width} {x y : ℤ} → SFits w x → SFits w y → ofZ w x ≡ ofZ w y → x ≡ y
+same-bits {w = w} f g e = sym (toZ-ofZ f) ∙ ap (toZ w) e ∙ toZ-ofZ g
+
+pub eq-yes : {w : Width} {x y : ℤ} → SFits w x → SFits w y → ofZ w x ≡ ofZ w y → eqZ x y ≡ true
+eq-yes {x = x} f g e = subst (λ (z : ℤ). eqZ x z ≡ true) (same-bits f g e) (eqZ-refl x)
+
+is-false : (t : Bool) → (t ≡ true → ⊥) → t ≡ false
+is-false true h = absurd (h refl)
+is-false false h = refl
+
+pub eq-no : (w : Width) (x y : ℤ) → (ofZ w x ≡ ofZ w y → ⊥) → eqZ x y ≡ false
+eq-no w x y h = is-false (eqZ x y) (λ e. h (ap (ofZ w) (eqZ-true x y e)))
+
+-- ---- a cast to an unsigned type, after a test that the number is not negative
+pub not-negative : (z : ℤ) → ltZ z (pos 0) ≡ false → T (nonNeg z)
+not-negative (pos n) e = tt
+not-negative (negsuc n) e = absurd (true≢false e)
+
+pub to-unsigned : (w w′ : Width) (z : ℤ) → T (ltb (hbits w) (bits w′)) → SFits w z → ltZ (toZ w (ofZ w z)) (pos 0) ≡ false → T (nonNeg (toZ w (ofZ w z))) × Fits w′ (natAbs (toZ w (ofZ w z)))
+to-unsigned w w′ z t f e = subst (λ (x : ℤ). T (nonNeg x) × Fits w′ (natAbs x)) (sym (toZ-ofZ f)) (not-negative z (left (pos 0) f e), fits-natAbs t f)
+
+-- ---- what a read of an element gives is the bound of its size
+pub back : (w : Width) (z : ℤ) → mag z < 2 ^ hbits w → toZ w (ofZ w z) ≡ z
+back w z h = toZ-ofZ {w = w} {z = z} (record { sfits = h })

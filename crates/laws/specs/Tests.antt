@@ -1,0 +1,29 @@
+-- Tests on numbers, with what they say: match on `eq? a b` or `lt? a b`, whose index is the test's value.
+use mathlib.Core.Path.{_≡_, sym, subst}
+use mathlib.Core.Bool.{Bool, true, false}
+use mathlib.Core.Logic.{_≢_}
+use Prim.Native.Nat.{ℕ, _≤_, _<_}
+use native.Mathlib.Omega.{arith}
+use native.Mathlib.Decide.{ℕ-discrete, decLt}
+use lib.Dec.{eqb, ltb}
+use borrow.Author.Tests.{eq-eqb, ne-eqb, lt-ltb, le-ltb}
+
+pub data Eq? (a b : ℕ) : Bool → Type 0 where
+  same : a ≡ b → Eq? a b true
+  diff : a ≢ b → Eq? a b false
+
+pub eq? : (a b : ℕ) → Eq? a b (eqb a b)
+eq? a b = elim (ℕ-discrete a b) [
+  | yes p ↦ subst (Eq? a b) (sym (eq-eqb a b p)) (same p)
+  | no p ↦ subst (Eq? a b) (sym (ne-eqb a b p)) (diff p)
+]
+
+pub data Lt? (a b : ℕ) : Bool → Type 0 where
+  less : a < b → Lt? a b true
+  more : b ≤ a → Lt? a b false
+
+pub lt? : (a b : ℕ) → Lt? a b (ltb a b)
+lt? a b = elim (decLt a b) [
+  | yes p ↦ subst (Lt? a b) (sym (lt-ltb a b p)) (less p)
+  | no p ↦ subst (Lt? a b) (sym (le-ltb a b (omega arith))) (more (omega arith))
+]

@@ -1,0 +1,1 @@
+// Facts that several crates cite; all of them stand in specs/.
