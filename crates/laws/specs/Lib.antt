@@ -6,3 +6,4 @@ pub mod SignedTests
 pub mod IntegerSize
 pub mod Write
 pub mod Refusal
+pub mod AcceptedBook

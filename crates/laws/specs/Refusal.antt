@@ -1,11 +1,10 @@
 -- Refusals one after another: what a loop that leaves at the first one has found, and what acceptance says of each.
-use Prim.Native.Nat.{ℕ, zero, suc, _+_, _<_, _≤_}
+use Prim.Native.Nat.{ℕ, zero, suc, _+_, _<_}
 use mathlib.Core.Path.{_≡_, refl, sym, ap, _∙_}
-use mathlib.Core.Bool.{Bool, true, false, true≢false}
+use mathlib.Core.Bool.{true, false, true≢false}
 use native.Mathlib.Omega.{arith}
-use native.Mathlib.Nat.{eq-or-lt-of-le, add-zero, add-suc}
+use native.Mathlib.Nat.{zero-add, add-zero}
 use native.Mathlib.Numerals.{add-one}
-use mathlib.Core.Logic.{_⊎_, inl, inr}
 use Rattle.definitions.specs.Answers.{Refusal, none, refuse, first, unless, isNone, numbered}
 use Rattle.definitions.specs.Calls.{firstFrom}
 
@@ -66,6 +65,9 @@ from-each i (suc k) f e zero l = rw (add-zero i) (first-left (f i) (firstFrom (s
 from-each i (suc k) f e (suc j) l =
     let h : i + suc j ≡ suc i + j = omega arith in
     rw h (from-each (suc i) k f (first-right (f i) (firstFrom (suc i) k f) e) j (omega arith))
+
+pub all-none : (k : ℕ) (f : ℕ → Refusal) → firstFrom 0 k f ≡ none → (j : ℕ) → j < k → f j ≡ none
+all-none k f e j l = rw (zero-add j) at (from-each 0 k f e j l)
 
 -- and back
 pub each-from : (i k : ℕ) (f : ℕ → Refusal) → ((j : ℕ) → j < k → f (i + j) ≡ none) → firstFrom i k f ≡ none

@@ -1,6 +1,6 @@
 -- Tests on numbers, with what they say: match on `eq? a b` or `lt? a b`, whose index is the test's value.
-use mathlib.Core.Path.{_≡_, sym, subst}
-use mathlib.Core.Bool.{Bool, true, false}
+use mathlib.Core.Path.{_≡_, refl, sym, subst}
+use mathlib.Core.Bool.{Bool, true, false, _&&_, true≢false}
 use mathlib.Core.Logic.{_≢_}
 use Prim.Native.Nat.{ℕ, _≤_, _<_}
 use native.Mathlib.Omega.{arith}
@@ -27,3 +27,12 @@ lt? a b = elim (decLt a b) [
   | yes p ↦ subst (Lt? a b) (sym (lt-ltb a b p)) (less p)
   | no p ↦ subst (Lt? a b) (sym (le-ltb a b (omega arith))) (more (omega arith))
 ]
+
+-- both tests hold
+pub and-left : (x y : Bool) → (x && y) ≡ true → x ≡ true
+and-left true y e = refl
+and-left false y e = e
+
+pub and-right : (x y : Bool) → (x && y) ≡ true → y ≡ true
+and-right true y e = e
+and-right false y e = absurd (true≢false (sym e))
