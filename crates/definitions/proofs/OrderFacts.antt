@@ -1,0 +1,60 @@
+-- The machine's orders and their bytes on single cases, by computation.
+use mathlib.Core.Path.{_≡_, refl}
+use mathlib.Core.List.{List, [], _∷_}
+use lib.ListN.{replicate}
+use Rattle.definitions.specs.declared.Order.the-variants.{Constant, Sum, Difference, Product, Less, Equal}
+use Rattle.definitions.specs.Machine.{times, lessThan, stepOf}
+use Rattle.definitions.specs.Answers.{refuse, none}
+use Rattle.definitions.specs.Bytes.{groups, numberBytes, orderBytes, fault, found, readGroups, numberAt, kindAt, cellAt, constantAt, lastAt, restAt, targetAt, orderAt, parse, parseFrom}
+use Rattle.definitions.specs.Calls.{runRefusal, cellsRefusal, firstFrom}
+
+-- examples 8 and 9, and the comparison's other side
+products : times 46341 46341 ∷ lessThan 1073741824 0 ∷ lessThan 0 1073741824 ∷ lessThan 1073741823 1073741823 ∷ [] ≡ 4634 ∷ 1 ∷ 0 ∷ 0 ∷ []
+products = refl
+
+-- each kind, on two cells; a, b and d may coincide
+kinds :
+    stepOf (3 ∷ 5 ∷ 7 ∷ []) (Constant 0 9)
+    ∷ stepOf (3 ∷ 5 ∷ 7 ∷ []) (Sum 2 0 1)
+    ∷ stepOf (3 ∷ 5 ∷ 7 ∷ []) (Difference 2 0 1)
+    ∷ stepOf (3 ∷ 5 ∷ 7 ∷ []) (Product 0 0 0)
+    ∷ stepOf (3 ∷ 5 ∷ 7 ∷ []) (Less 1 0 1)
+    ∷ stepOf (3 ∷ 5 ∷ 7 ∷ []) (Equal 1 0 1)
+    ∷ []
+    ≡ (9 ∷ 5 ∷ 7 ∷ []) ∷ (3 ∷ 5 ∷ 8 ∷ []) ∷ (3 ∷ 5 ∷ 2147483645 ∷ []) ∷ (9 ∷ 5 ∷ 7 ∷ []) ∷ (3 ∷ 1 ∷ 7 ∷ []) ∷ (3 ∷ 0 ∷ 7 ∷ []) ∷ []
+kinds = refl
+
+-- example 10: 00 AC 02 FE FF FF FF 07
+constant : orderBytes (Constant 300 2147483646) ≡ 0 ∷ 172 ∷ 2 ∷ 254 ∷ 255 ∷ 255 ∷ 255 ∷ 7 ∷ []
+unfolding orderBytes numberBytes groups
+constant = refl
+
+-- reading: an order at an offset; 9 after no byte and after four; 11 after five, for a longer form, and for 2^32; a lone kind 6 is 10, in a longer form 11;
+-- 12 for a cell and a constant just beyond
+readings :
+    orderAt (7 ∷ 0 ∷ 172 ∷ 2 ∷ 254 ∷ 255 ∷ 255 ∷ 255 ∷ 7 ∷ 9 ∷ []) 1
+    ∷ orderAt (4 ∷ 1 ∷ 2 ∷ 3 ∷ []) 0
+    ∷ orderAt [] 0
+    ∷ orderAt (0 ∷ 1 ∷ 255 ∷ 255 ∷ 255 ∷ 255 ∷ []) 0
+    ∷ orderAt (0 ∷ 1 ∷ 255 ∷ 255 ∷ 255 ∷ 255 ∷ 255 ∷ []) 0
+    ∷ orderAt (134 ∷ 0 ∷ []) 0
+    ∷ orderAt (0 ∷ 1 ∷ 128 ∷ 128 ∷ 128 ∷ 128 ∷ 16 ∷ []) 0
+    ∷ orderAt (6 ∷ []) 0
+    ∷ orderAt (1 ∷ 128 ∷ 32 ∷ []) 0
+    ∷ orderAt (0 ∷ 1 ∷ 255 ∷ 255 ∷ 255 ∷ 255 ∷ 7 ∷ []) 0
+    ∷ []
+    ≡ found (Constant 300 2147483646) 9 ∷ found (Less 1 2 3) 4 ∷ fault 9 ∷ fault 9 ∷ fault 11 ∷ fault 11 ∷ fault 11 ∷ fault 10 ∷ fault 12 ∷ fault 12 ∷ []
+unfolding orderAt targetAt restAt lastAt kindAt cellAt constantAt numberAt readGroups
+readings = refl
+
+-- all bytes: none is a run of no orders; the place is that of the order's first byte
+parsed : parse [] ∷ parse (0 ∷ 1 ∷ 5 ∷ 1 ∷ 2 ∷ 3 ∷ 128 ∷ []) ∷ []
+    ≡ record { orders = []; refusal = none } ∷ record { orders = Constant 1 5 ∷ []; refusal = refuse 9 3 } ∷ []
+unfolding parse parseFrom orderAt targetAt restAt lastAt kindAt cellAt constantAt numberAt readGroups
+parsed = refl
+
+-- the runner: 3 before 15 before the bytes
+runs : runRefusal (2147483647 ∷ []) (6 ∷ []) ∷ runRefusal (2147483647 ∷ replicate 4095 0) (6 ∷ []) ∷ []
+    ≡ refuse 3 0 ∷ refuse 15 0 ∷ []
+unfolding runRefusal cellsRefusal firstFrom
+runs = refl
