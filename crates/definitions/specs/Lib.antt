@@ -8,3 +8,5 @@ pub mod Machine
 pub mod Answers
 pub mod Bytes
 pub mod Calls
+pub mod Plan
+pub mod Outcome
