@@ -2,3 +2,5 @@
 pub mod TableFacts
 pub mod ClearingFacts
 pub mod OrderFacts
+pub mod PlanFacts
+pub mod SettleFacts

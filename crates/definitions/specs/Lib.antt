@@ -10,3 +10,4 @@ pub mod Bytes
 pub mod Calls
 pub mod Plan
 pub mod Outcome
+pub mod Settle

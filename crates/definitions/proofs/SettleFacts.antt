@@ -1,0 +1,58 @@
+-- Settle's input and listing on single texts, by computation.
+use mathlib.Core.Path.{_≡_, refl}
+use mathlib.Core.List.{[], _∷_}
+use lib.IntN.{pos, negℤ}
+use Rattle.definitions.specs.Book.{book}
+use Rattle.definitions.specs.Answers.{refuse}
+use Rattle.definitions.specs.Settle.{words, wordsFrom, digitsFrom, wholeOf, numbersOf, unreadable, refused, readable, settleInput, decimalTo, decimal, decimalZ, bidLine, flowLine, priceLine, welfareLine, linesTo, bidLines, flowLines, priceLines, listing, refusedText}
+
+-- example 2; blanks around and -0; then texts in this order: `007 9 x`, `999 1 x`, `999 1x`, `999 -1`, `999`, ``, `0 1 5 x`, `0 1`, `0 1 2147483648`, `0 1 --3`, `0 1 +3`, `0 1 -`, `0 1(tab)0`, `0 1 -2147483648`
+inputs :
+    settleInput (50 ∷ 32 ∷ 50 ∷ 32 ∷ 49 ∷ 32 ∷ 50 ∷ 48 ∷ 32 ∷ 45 ∷ 49 ∷ 48 ∷ 32 ∷ 50 ∷ 32 ∷ 51 ∷ 48 ∷ 32 ∷ 54 ∷ 32 ∷ 48 ∷ 32 ∷ 51 ∷ 32 ∷ 48 ∷ 32 ∷ 48 ∷ [])
+    ∷ settleInput (32 ∷ 10 ∷ 48 ∷ 32 ∷ 49 ∷ 10 ∷ 45 ∷ 48 ∷ 32 ∷ [])
+    ∷ settleInput (48 ∷ 48 ∷ 55 ∷ 32 ∷ 57 ∷ 32 ∷ 120 ∷ [])
+    ∷ settleInput (57 ∷ 57 ∷ 57 ∷ 32 ∷ 49 ∷ 32 ∷ 120 ∷ [])
+    ∷ settleInput (57 ∷ 57 ∷ 57 ∷ 32 ∷ 49 ∷ 120 ∷ [])
+    ∷ settleInput (57 ∷ 57 ∷ 57 ∷ 32 ∷ 45 ∷ 49 ∷ [])
+    ∷ settleInput (57 ∷ 57 ∷ 57 ∷ [])
+    ∷ settleInput []
+    ∷ settleInput (48 ∷ 32 ∷ 49 ∷ 32 ∷ 53 ∷ 32 ∷ 120 ∷ [])
+    ∷ settleInput (48 ∷ 32 ∷ 49 ∷ [])
+    ∷ settleInput (48 ∷ 32 ∷ 49 ∷ 32 ∷ 50 ∷ 49 ∷ 52 ∷ 55 ∷ 52 ∷ 56 ∷ 51 ∷ 54 ∷ 52 ∷ 56 ∷ [])
+    ∷ settleInput (48 ∷ 32 ∷ 49 ∷ 32 ∷ 45 ∷ 45 ∷ 51 ∷ [])
+    ∷ settleInput (48 ∷ 32 ∷ 49 ∷ 32 ∷ 43 ∷ 51 ∷ [])
+    ∷ settleInput (48 ∷ 32 ∷ 49 ∷ 32 ∷ 45 ∷ [])
+    ∷ settleInput (48 ∷ 32 ∷ 49 ∷ 9 ∷ 48 ∷ [])
+    ∷ settleInput (48 ∷ 32 ∷ 49 ∷ 32 ∷ 45 ∷ 50 ∷ 49 ∷ 52 ∷ 55 ∷ 52 ∷ 56 ∷ 51 ∷ 54 ∷ 52 ∷ 56 ∷ [])
+    ∷ []
+    ≡ readable (book 2 2 (pos 1 ∷ pos 20 ∷ negℤ (pos 10) ∷ pos 2 ∷ pos 30 ∷ pos 6 ∷ []) (pos 0 ∷ pos 3 ∷ pos 0 ∷ pos 0 ∷ []))
+    ∷ readable (book 0 1 [] (pos 0 ∷ []))
+    ∷ refused (refuse 2 0)
+    ∷ refused (refuse 1 0)
+    ∷ unreadable
+    ∷ unreadable
+    ∷ unreadable
+    ∷ unreadable
+    ∷ unreadable
+    ∷ unreadable
+    ∷ unreadable
+    ∷ unreadable
+    ∷ unreadable
+    ∷ unreadable
+    ∷ unreadable
+    ∷ readable (book 0 1 [] (negℤ (pos 2147483648) ∷ []))
+    ∷ []
+unfolding settleInput words wordsFrom wholeOf digitsFrom numbersOf
+inputs = refl
+
+-- the listing of example 2, in full
+listed : listing 2 2 (pos 3 ∷ pos 3 ∷ pos 0 ∷ pos 3 ∷ pos 0 ∷ pos 0 ∷ pos 20 ∷ pos 1 ∷ pos 0 ∷ pos 0 ∷ []) (pos 30)
+    ≡ (98 ∷ 105 ∷ 100 ∷ 32 ∷ 49 ∷ 32 ∷ 51 ∷ 10 ∷ 98 ∷ 105 ∷ 100 ∷ 32 ∷ 50 ∷ 32 ∷ 51 ∷ 10 ∷ 108 ∷ 105 ∷ 110 ∷ 101 ∷ 32 ∷ 49 ∷ 32 ∷ 50 ∷ 32 ∷ 51 ∷ 10 ∷ 112 ∷ 114 ∷ 105 ∷ 99 ∷ 101 ∷ 32 ∷ 49 ∷ 32 ∷ 50 ∷ 48 ∷ 10 ∷ 112 ∷ 114 ∷ 105 ∷ 99 ∷ 101 ∷ 32 ∷ 50 ∷ 32 ∷ 110 ∷ 111 ∷ 110 ∷ 101 ∷ 10 ∷ 119 ∷ 101 ∷ 108 ∷ 102 ∷ 97 ∷ 114 ∷ 101 ∷ 32 ∷ 51 ∷ 48 ∷ 10 ∷ [])
+unfolding listing bidLines flowLines priceLines linesTo bidLine flowLine priceLine welfareLine decimalZ decimal decimalTo
+listed = refl
+
+-- negative numbers
+negatives : priceLine 4 (negℤ (pos 30000)) (pos 1) ∷ welfareLine (negℤ (pos 125829120000)) ∷ refusedText 15 4095 ∷ []
+    ≡ (112 ∷ 114 ∷ 105 ∷ 99 ∷ 101 ∷ 32 ∷ 52 ∷ 32 ∷ 45 ∷ 51 ∷ 48 ∷ 48 ∷ 48 ∷ 48 ∷ 10 ∷ []) ∷ (119 ∷ 101 ∷ 108 ∷ 102 ∷ 97 ∷ 114 ∷ 101 ∷ 32 ∷ 45 ∷ 49 ∷ 50 ∷ 53 ∷ 56 ∷ 50 ∷ 57 ∷ 49 ∷ 50 ∷ 48 ∷ 48 ∷ 48 ∷ 48 ∷ 10 ∷ []) ∷ (114 ∷ 101 ∷ 102 ∷ 117 ∷ 115 ∷ 101 ∷ 100 ∷ 32 ∷ 49 ∷ 53 ∷ 32 ∷ 52 ∷ 48 ∷ 57 ∷ 53 ∷ 10 ∷ []) ∷ []
+unfolding priceLine welfareLine refusedText decimalZ decimal decimalTo
+negatives = refl
