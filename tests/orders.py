@@ -1,0 +1,84 @@
+"""The machine and the plan's bytes, written apart from the unit from document 01's words."""
+P, CELLS = 2_147_483_647, 4_096
+
+
+class Refused(Exception):
+    pass
+
+
+def number(data, at, start):
+    value = 0
+    for k in range(5):
+        if at + k >= len(data):
+            raise Refused(9, start)
+        byte = data[at + k]
+        value += (byte & 127) << (7 * k)
+        if byte < 128:
+            if value >= 2**32 or (k > 0 and byte == 0):
+                raise Refused(11, start)
+            return value, at + k + 1
+    raise Refused(11, start)
+
+
+def order(data, start):
+    kind, at = number(data, start, start)
+    if kind > 5:
+        raise Refused(10, start)
+    limits = [CELLS, P] if kind == 0 else [CELLS] * 3
+    parts = [kind]
+    for limit in limits:
+        value, at = number(data, at, start)
+        if value >= limit:
+            raise Refused(12, start)
+        parts.append(value)
+    return parts, at
+
+
+def orders(data):
+    at, found = 0, []
+    while at < len(data):
+        parts, at = order(data, at)
+        found.append(parts)
+    return found
+
+
+def signed(x):
+    return x - P if x > 1_073_741_823 else x
+
+
+def run(found, sheet):
+    for parts in found:
+        if parts[0] == 0:
+            sheet[parts[1]] = parts[2]
+            continue
+        kind, d, a, b = parts
+        x, y = sheet[a], sheet[b]
+        sheet[d] = [None, (x + y) % P, (x - y) % P, x * y % P, int(signed(x) < signed(y)), int(x == y)][kind]
+    return sheet
+
+
+def groups(value):
+    out = []
+    while value >= 128:
+        out.append(value % 128 + 128)
+        value //= 128
+    return out + [value]
+
+
+def encoded(parts):
+    return bytes(b for v in parts for b in groups(v))
+
+
+def sealed(n, m, bids, capacities):
+    values = [v for b in bids for v in b] + [v for row in capacities for v in row]
+    return [v % P for v in values] + [0] * (CELLS - len(values))
+
+
+def results(n, m, sheet):
+    first = 3 * n + m * m
+    accepted = [signed(x) for x in sheet[first:first + n]]
+    at = first + n
+    flows = [[signed(x) for x in sheet[at + a * m:at + a * m + m]] for a in range(m)]
+    at += m * m
+    prices = [signed(sheet[at + 2 * p]) if sheet[at + 2 * p + 1] else None for p in range(m)]
+    return accepted, flows, prices
