@@ -10,7 +10,10 @@ NUMBER = re.compile(rb"-?[0-9]+\Z")
 def number(word):
     if not NUMBER.match(word):
         return None
-    v = int(word)
+    digits = word.lstrip(b"-").lstrip(b"0") or b"0"
+    if len(digits) > 10:
+        return None
+    v = -int(digits) if word[:1] == b"-" else int(digits)
     return v if -2**31 <= v < 2**31 else None
 
 
