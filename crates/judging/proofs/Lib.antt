@@ -1,0 +1,4 @@
+-- Laws that several proofs cite.
+pub mod Range
+pub mod Search
+pub mod Sizes

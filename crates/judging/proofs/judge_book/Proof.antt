@@ -1,0 +1,138 @@
+-- Four judges in turn; what the first two let through is what the others require.
+use mathlib.Core.Path.{_≡_, refl, _∙_}
+use mathlib.Core.Bool.{_&&_}
+use mathlib.Core.List.{List, []}
+use lib.Dec.{eqb}
+use lib.IntN.{ℤ}
+use lib.ListN.{length}
+use Prim.Native.Nat.{ℕ}
+use borrow.Author.Needs.{needs}
+use Rattle.definitions.specs.Limits.{cellCount}
+use Rattle.definitions.specs.Answers.{Refusal, none, first, refusalOf}
+use Rattle.definitions.specs.Book.{Book, book}
+use Rattle.definitions.specs.Calls.{countsRefusal, lengthRefusal, tablesRight, bidsRefusal, rowRefusal, capacitiesRefusal, sealRefusal}
+use Rattle.judging.proofs.Search.{first-to-refuse, let-through, after-none}
+use Rattle.judging.proofs.Sizes.{Counts, counted, Lengths, measured}
+use Rattle.judging.proofs.judge_book.Statement.{statement}
+use Rattle.judging.proofs.judge_book.Tie as tie
+
+-- the bids are judged whatever the capacities, and the capacities whatever the bids
+bids-alone : (n m : ℕ) (bids capacities : List ℤ) → bidsRefusal (book n m bids []) ≡ bidsRefusal (book n m bids capacities)
+unfolding bidsRefusal
+bids-alone n m bids capacities = refl
+
+capacities-alone : (n m : ℕ) (bids capacities : List ℤ) → capacitiesRefusal (book 0 m [] capacities) ≡ capacitiesRefusal (book n m bids capacities)
+unfolding capacitiesRefusal rowRefusal
+capacities-alone n m bids capacities = refl
+
+judge-counts-requires : tie.Need-judge-counts-requires
+judge-counts-requires c κs = search needs
+
+is-accepted-requires : tie.Need-is-accepted-requires
+is-accepted-requires c κs = search needs
+
+abbrev bookOf : tie.Start → Book
+bookOf s = book (s .args .n) (s .args .m) (s .args .bids .now) (s .args .capacities .now)
+
+abbrev lengthsOf : tie.Start → Refusal
+lengthsOf s = lengthRefusal (tablesRight (bookOf s) && eqb (s .args .cells) cellCount)
+
+abbrev afterLengths : tie.Start → Refusal
+afterLengths s = first (bidsRefusal (bookOf s)) (capacitiesRefusal (bookOf s))
+
+returns : tie.Need-returns
+unfolding sealRefusal
+returns c =
+    let s = c .before .before .before in
+    first-to-refuse (c .before .before .judge-counts .ensures) (c .before .is-accepted .ensures)
+    (first (lengthsOf s) (afterLengths s)) (c .if1 .taken)
+
+counts-passed : (c : tie.Else1) → let s = c .before .before .before in countsRefusal (s .args .n) (s .args .m) ≡ none
+counts-passed c =
+    let s = c .before .before .before in
+    let-through (c .before .before .judge-counts .ensures) (c .before .is-accepted .ensures) (c .if1 .left)
+
+counts : (c : tie.Else1) → let s = c .before .before .before in Counts (s .args .n) (s .args .m)
+counts c = counted _ _ (counts-passed c)
+
+judge-lengths-requires : tie.Need-judge-lengths-requires
+judge-lengths-requires c κs = (counts c .bids, counts c .pools .most)
+
+is-accepted-requires-2 : tie.Need-is-accepted-requires-2
+is-accepted-requires-2 c κs = search needs
+
+returns-2 : tie.Need-returns-2
+unfolding sealRefusal
+returns-2 c =
+    let o = c .before .before .before in
+    let s = o .before .before .before in
+    first-to-refuse {asked = lengthsOf s} (c .before .before .judge-lengths .ensures) (c .before .is-accepted2 .ensures) (afterLengths s) (c .if2 .taken)
+    ∙ after-none (first (lengthsOf s) (afterLengths s)) (counts-passed o)
+
+lengths-passed : (c : tie.Else2) → lengthsOf (c .before .before .before .before .before .before) ≡ none
+lengths-passed c =
+    let s = c .before .before .before .before .before .before in
+    let-through {asked = lengthsOf s} (c .before .before .judge-lengths .ensures) (c .before .is-accepted2 .ensures) (c .if2 .left)
+
+lengths : (c : tie.Else2) → let s = c .before .before .before .before .before .before in Lengths (s .args .n) (s .args .m) (length (s .args .bids .now)) (length (s .args .capacities .now)) (s .args .cells)
+lengths c = measured _ _ _ _ _ (lengths-passed c)
+
+-- so what is left is what the whole answers
+left : (c : tie.Else2) → let s = c .before .before .before .before .before .before in afterLengths s ≡ sealRefusal (bookOf s) (s .args .cells)
+unfolding sealRefusal
+left c =
+    let o = c .before .before .before in
+    let s = o .before .before .before in
+    after-none (afterLengths s) (lengths-passed c)
+    ∙ after-none (first (lengthsOf s) (afterLengths s)) (counts-passed o)
+
+judge-bids-requires : tie.Need-judge-bids-requires
+judge-bids-requires c κs = (counts (c .before .before .before) .pools .most, lengths c .bid-table)
+
+is-accepted-requires-3 : tie.Need-is-accepted-requires-3
+is-accepted-requires-3 c κs = search needs
+
+bids-judged : (c : tie.After-judge-bids) → refusalOf (c .judge-bids .result) ≡ bidsRefusal (bookOf (c .before .before .before .before .before .before .before))
+bids-judged c =
+    let a = c .before .before .before .before .before .before .before .args in
+    c .judge-bids .ensures ∙ bids-alone (a .n) (a .m) (a .bids .now) (a .capacities .now)
+
+returns-3 : tie.Need-returns-3
+returns-3 c =
+    let j = c .before .before in
+    let B = bookOf (j .before .before .before .before .before .before .before) in
+    first-to-refuse (bids-judged j) (c .before .is-accepted3 .ensures) (capacitiesRefusal B) (c .if3 .taken)
+    ∙ left (j .before)
+
+judge-capacities-requires : tie.Need-judge-capacities-requires
+judge-capacities-requires c κs =
+    let o = c .before .before .before in
+    (counts (o .before .before .before) .pools .most, lengths o .capacity-table)
+
+returns-4 : tie.Need-returns-4
+returns-4 c =
+    let t = c .before in
+    let j = t .before .before in
+    let s = j .before .before .before .before .before .before .before in
+    let B = bookOf s in
+    let bids-passed = let-through (bids-judged j) (t .before .is-accepted3 .ensures) (t .if3 .left) in
+    c .judge-capacities .ensures
+    ∙ capacities-alone (s .args .n) (s .args .m) (s .args .bids .now) (s .args .capacities .now)
+    ∙ after-none (capacitiesRefusal B) bids-passed
+    ∙ left (j .before)
+
+pub judge-book-spec : {M : Type 1} → statement M
+judge-book-spec =
+    tie.close
+    (tie.spec
+    judge-counts-requires
+    is-accepted-requires
+    returns
+    judge-lengths-requires
+    is-accepted-requires-2
+    returns-2
+    judge-bids-requires
+    is-accepted-requires-3
+    returns-3
+    judge-capacities-requires
+    returns-4)

@@ -1,0 +1,31 @@
+-- `less` meets its contract: the test compares the readings of both cells.
+use mathlib.Core.Path.{_≡_, sym, ap₂, _∙_}
+use lib.Signed.{ltZ}
+use mir.Syntax.{w32}
+use mir.Val.{toZ, ofZ}
+use borrow.Author.Needs.{needs}
+use Rattle.definitions.specs.Arithmetic.{reading}
+use Rattle.laws.specs.SignedTests.{back}
+use Rattle.machine.proofs.less.Statement.{statement}
+use Rattle.machine.proofs.less.Tie as tie
+
+reading-requires : tie.Need-reading-requires
+reading-requires c κs = search needs
+
+reading-requires-2 : tie.Need-reading-requires-2
+reading-requires-2 c κs = search needs
+
+test : (c : tie.After-reading2) → ltZ (toZ w32 (ofZ w32 (c .before .reading .result))) (toZ w32 (ofZ w32 (c .reading2 .result))) ≡ ltZ (reading (c .before .before .args .x)) (reading (c .before .before .args .y))
+test c =
+    ap₂ ltZ
+    (back w32 (c .before .reading .result) (c .before .reading .ok) ∙ c .before .reading .ensures)
+    (back w32 (c .reading2 .result) (c .reading2 .ok) ∙ c .reading2 .ensures)
+
+returns : tie.Need-returns
+returns c = simp (sym (test (c .before)) ∙ c .if1 .taken)
+
+returns-2 : tie.Need-returns-2
+returns-2 c = simp (sym (test (c .before)) ∙ c .if1 .left)
+
+pub less-spec : {M : Type 1} → statement M
+less-spec = tie.close (tie.spec reading-requires reading-requires-2 returns returns-2)

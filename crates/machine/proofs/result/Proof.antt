@@ -1,0 +1,61 @@
+-- `result` meets its contract: each arm of the match is told its kind, the last one that the kind is none of the others.
+use mathlib.Core.Path.{_∙_}
+use borrow.Author.Needs.{needs}
+use Rattle.machine.proofs.KindResult.{known, unknown}
+use Rattle.machine.proofs.result.Statement.{statement}
+use Rattle.machine.proofs.result.Tie as tie
+
+sum-requires : tie.Need-sum-requires
+sum-requires c κs = search needs
+
+difference-requires : tie.Need-difference-requires
+difference-requires c κs = search needs
+
+product-requires : tie.Need-product-requires
+product-requires c κs = search needs
+
+less-requires : tie.Need-less-requires
+less-requires c κs = search needs
+
+equal-requires : tie.Need-equal-requires
+equal-requires c κs = search needs
+
+returns : tie.Need-returns
+returns c = search needs
+
+returns-2 : tie.Need-returns-2
+returns-2 c = c .sum .ensures ∙ known (c .before .before .args .kind) 1 _ _ _ (c .before .match .keys2)
+
+returns-3 : tie.Need-returns-3
+returns-3 c = c .difference .ensures ∙ known (c .before .before .args .kind) 2 _ _ _ (c .before .match .keys3)
+
+returns-4 : tie.Need-returns-4
+returns-4 c = c .product .ensures ∙ known (c .before .before .args .kind) 3 _ _ _ (c .before .match .keys4)
+
+returns-5 : tie.Need-returns-5
+returns-5 c = c .less .ensures ∙ known (c .before .before .args .kind) 4 _ _ _ (c .before .match .keys5)
+
+returns-6 : tie.Need-returns-6
+returns-6 c = c .equal .ensures ∙ known (c .before .before .args .kind) 5 _ _ _ (c .before .match .keys6)
+
+returns-7 : tie.Need-returns-7
+returns-7 c =
+    let r = c .match .rest in
+    unknown (c .before .args .kind) _ _ _ (r .0 .0 .0 .0 .0 .1) (r .0 .0 .0 .0 .1) (r .0 .0 .0 .1) (r .0 .0 .1) (r .0 .1) (r .1)
+
+pub result-spec : {M : Type 1} → statement M
+result-spec =
+    tie.close
+    (tie.spec
+    sum-requires
+    difference-requires
+    product-requires
+    less-requires
+    equal-requires
+    returns
+    returns-2
+    returns-3
+    returns-4
+    returns-5
+    returns-6
+    returns-7)

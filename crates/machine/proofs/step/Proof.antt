@@ -1,0 +1,70 @@
+-- `step` meets its contract: the order's numbers name cells of the sheet, and what is stored is what `one-store` says.
+use Prim.Native.Nat.{ℕ, _<_}
+use mathlib.Core.Path.{sym, ap, subst, _∙_}
+use mathlib.Core.List.{List}
+use lib.ListN.{length, set}
+use borrow.Author.Needs.{needs, scaled-fits}
+use Rattle.definitions.specs.Limits.{cellCount}
+use Rattle.definitions.specs.Machine.{IsSheet}
+use Rattle.machine.specs.Parts.{store, one-store}
+use Rattle.machine.specs.Run.{PartsWithin, parts-within}
+use Rattle.machine.proofs.step.Statement.{statement}
+use Rattle.machine.proofs.step.Tie as tie
+
+within : (c : tie.After-taken-apart) → PartsWithin (c .taken-apart .result)
+within c =
+    subst PartsWithin (sym (c .taken-apart .ensures))
+    (parts-within (c .before .before .args .order) (c .before .before .pre .1))
+
+in-sheet : (s : List ℕ) (i : ℕ) → IsSheet s → i < cellCount → i < length s
+in-sheet s i h l = rw (h .cells) l
+
+taken-apart-requires : tie.Need-taken-apart-requires
+taken-apart-requires c κs = search needs
+
+slice-read-x : tie.Need-slice-read-x
+slice-read-x c = in-sheet _ _ (c .before .before .before .pre .0) (within (c .before) .left)
+
+mul-x : tie.Need-mul-x
+mul-x c = scaled-fits _ _ 4 (in-sheet (c .before .before .args .sheet .now) _ (c .before .before .pre .0) (within c .left)) (c .before .before .good .0 .1)
+
+slice-read-y : tie.Need-slice-read-y
+slice-read-y c = in-sheet _ _ (c .before .before .before .before .pre .0) (within (c .before .before) .right)
+
+mul-y : tie.Need-mul-y
+mul-y c = scaled-fits _ _ 4 (in-sheet (c .before .before .before .args .sheet .now) _ (c .before .before .before .pre .0) (within (c .before) .right)) (c .before .before .before .good .0 .1)
+
+result-requires : tie.Need-result-requires
+result-requires c κs = let h = c .before .before .before .before .pre .0 in (h .below _, h .below _)
+
+slice-write-sheet : tie.Need-slice-write-sheet
+slice-write-sheet c = in-sheet _ _ (c .before .before .before .before .before .pre .0) (within (c .before .before .before) .target)
+
+mul-sheet : tie.Need-mul-sheet
+mul-sheet c = scaled-fits _ _ 4 (slice-write-sheet c) (c .before .before .before .before .before .good .0 .1)
+
+same-length : tie.Need-same-length
+same-length c = search needs
+
+returns : tie.Need-returns
+returns c =
+    let q = c .before .before .before .taken-apart in
+    let a = c .before .before .before .before .before .args in
+    ap (set (a .sheet .now) (q .result .d)) (c .result .ensures)
+    ∙ ap (store (a .sheet .now)) (q .ensures)
+    ∙ sym (one-store (a .sheet .now) (a .order))
+
+pub step-spec : {M : Type 1} → statement M
+step-spec =
+    tie.close
+    (tie.spec
+    taken-apart-requires
+    mul-x
+    slice-read-x
+    mul-y
+    slice-read-y
+    result-requires
+    mul-sheet
+    slice-write-sheet
+    same-length
+    returns)

@@ -1,0 +1,110 @@
+-- The sheet stays a sheet, of the same length, under an order and under a list of orders; a list run after another is one run.
+use Prim.Native.Nat.{ℕ, zero, suc, _<_}
+use mathlib.Core.Path.{_≡_, refl, sym, subst, _∙_}
+use mathlib.Core.Bool.{Bool, true, false, cond}
+use mathlib.Core.List.{List, [], _∷_, _++_}
+use native.Mathlib.Omega.{arith}
+use native.Mathlib.Decide.{ℕ-discrete}
+use native.Mathlib.Nat.{mod-lt}
+use lib.Dec.{eqb}
+use lib.ListN.{length, set, length-set}
+use lib.Seq.{getD-set-same, getD-set-other}
+use lib.Signed.{ltZ}
+use Rattle.definitions.specs.Limits.{cellCount, modulus}
+use Rattle.definitions.specs.Arithmetic.{reading}
+use Rattle.definitions.specs.declared.Order.{Order}
+use Rattle.definitions.specs.declared.Order.the-variants.{Constant, Sum, Difference, Product, Less, Equal}
+use Rattle.definitions.specs.Machine.{cell, IsSheet, WellFormed, stepOf, runOf}
+use Rattle.machine.specs.declared.Parts.{Parts}
+use Rattle.machine.specs.Parts.{resultOf, partsOf, one-store}
+
+-- ---- One order
+
+-- the numbers of a well-formed order: cells of the sheet, and a constant below p
+pub record PartsWithin (q : Parts) : Type 0 where
+  pub target : q .d < cellCount
+  pub left : q .a < cellCount
+  pub right : q .b < cellCount
+  pub constant : q .k < modulus
+
+pub parts-within : (o : Order) → WellFormed o → PartsWithin (partsOf o)
+parts-within (Constant d k) h = record { target = h .0; left = omega arith; right = omega arith; constant = h .1 }
+parts-within (Sum d a b) h = record { target = h .0; left = h .1; right = h .2; constant = omega arith }
+parts-within (Difference d a b) h = record { target = h .0; left = h .1; right = h .2; constant = omega arith }
+parts-within (Product d a b) h = record { target = h .0; left = h .1; right = h .2; constant = omega arith }
+parts-within (Less d a b) h = record { target = h .0; left = h .1; right = h .2; constant = omega arith }
+parts-within (Equal d a b) h = record { target = h .0; left = h .1; right = h .2; constant = omega arith }
+
+-- every result is below p
+bit-below : (t : Bool) → cond t 1 0 < modulus
+bit-below true = omega arith
+bit-below false = omega arith
+
+pub result-below : (kind k x y : ℕ) → k < modulus → resultOf kind k x y < modulus
+result-below zero k x y h = h
+result-below (suc zero) k x y h = mod-lt _ (omega arith)
+result-below (suc (suc zero)) k x y h = mod-lt _ (omega arith)
+result-below (suc (suc (suc zero))) k x y h = mod-lt _ (omega arith)
+result-below (suc (suc (suc (suc zero)))) k x y h = bit-below (ltZ (reading x) (reading y))
+result-below (suc (suc (suc (suc (suc zero))))) k x y h = bit-below (eqb x y)
+result-below (suc (suc (suc (suc (suc (suc kind)))))) k x y h = omega arith
+
+-- a store of a number below p
+pub set-sheet : (s : List ℕ) (d v : ℕ) → IsSheet s → d < cellCount → v < modulus → IsSheet (set s d v)
+set-sheet s d v h l k = record { cells = length-set s d v ∙ h .cells; below = λ c. go c (ℕ-discrete c d) }
+  where
+    go : (c : ℕ) → Dec (c ≡ d) → cell (set s d v) c < modulus
+    go c (yes e) = rw (e, getD-set-same s d v 0 (omega (arith, h .cells))) k
+    go c (no e) = rw (getD-set-other s d c v 0 e) (h .below c)
+
+pub step-sheet : (s : List ℕ) (o : Order) → IsSheet s → WellFormed o → IsSheet (stepOf s o)
+step-sheet s o h w =
+    let q = partsOf o in
+    let p = parts-within o w in
+    subst IsSheet (sym (one-store s o)) (set-sheet s (q .d) _ h (p .target) (result-below (q .kind) (q .k) _ _ (p .constant)))
+
+pub step-length : (s : List ℕ) (o : Order) → length (stepOf s o) ≡ length s
+step-length s o = rw (one-store s o) (length-set s _ _)
+
+-- ---- A list of orders
+
+-- every order of a list is well formed
+unfoldable pub WellFormedOrders : List Order → Type 0
+WellFormedOrders [] = Unit {0}
+WellFormedOrders (o ∷ os) = WellFormed o × WellFormedOrders os
+
+pub none-well-formed : WellFormedOrders []
+unfolding WellFormedOrders
+none-well-formed = tt
+
+pub more-well-formed : (o : Order) (os : List Order) → WellFormed o → WellFormedOrders os → WellFormedOrders (o ∷ os)
+unfolding WellFormedOrders
+more-well-formed o os h k = (h, k)
+
+pub first-well-formed : (o : Order) (os : List Order) → WellFormedOrders (o ∷ os) → WellFormed o
+unfolding WellFormedOrders
+first-well-formed o os h = h .0
+
+pub rest-well-formed : (o : Order) (os : List Order) → WellFormedOrders (o ∷ os) → WellFormedOrders os
+unfolding WellFormedOrders
+rest-well-formed o os h = h .1
+
+pub append-well-formed : (xs ys : List Order) → WellFormedOrders xs → WellFormedOrders ys → WellFormedOrders (xs ++ ys)
+unfolding WellFormedOrders
+append-well-formed [] ys h k = k
+append-well-formed (x ∷ xs) ys h k = (h .0, append-well-formed xs ys (h .1) k)
+
+pub run-sheet : (os : List Order) (s : List ℕ) → IsSheet s → WellFormedOrders os → IsSheet (runOf os s)
+unfolding runOf WellFormedOrders
+run-sheet [] s h w = h
+run-sheet (o ∷ os) s h w = run-sheet os (stepOf s o) (step-sheet s o h (w .0)) (w .1)
+
+pub run-length : (os : List Order) (s : List ℕ) → length (runOf os s) ≡ length s
+unfolding runOf
+run-length [] s = refl
+run-length (o ∷ os) s = run-length os (stepOf s o) ∙ step-length s o
+
+pub run-append : (xs ys : List Order) (s : List ℕ) → runOf (xs ++ ys) s ≡ runOf ys (runOf xs s)
+unfolding runOf
+run-append [] ys s = refl
+run-append (x ∷ xs) ys s = run-append xs ys (stepOf s x)

@@ -1,0 +1,139 @@
+// The machine: one order on the sheet.
+ghost use mathlib.Core.Path.{_≡_};
+ghost use Prim.Native.Nat.{_<_};
+ghost use Rattle.definitions.specs.Limits.{modulus};
+ghost use Rattle.definitions.specs.Machine.{IsSheet, WellFormed, stepOf, plus, minus, times, lessThan, sameAs};
+ghost use Rattle.machine.specs.Parts.{partsOf, resultOf};
+use definitions::Limits;
+use definitions::Order;
+use residues::reading;
+
+// Orders 1, 2, 3: the sum, the difference, the product modulo p.
+fn sum(x: u32, y: u32) -> u32
+    ensures { λ r. ⌜ r ≡ plus x y ⌝ }
+{
+    ((x as u64 + y as u64) % Limits::MODULUS as u64) as u32
+}
+
+fn difference(x: u32, y: u32) -> u32
+    requires { ⌜ y < modulus ⌝ }
+    ensures { λ r. ⌜ r ≡ minus x y ⌝ }
+{
+    ((x as u64 + Limits::MODULUS as u64 - y as u64) % Limits::MODULUS as u64) as u32
+}
+
+fn product(x: u32, y: u32) -> u32
+    ensures { λ r. ⌜ r ≡ times x y ⌝ }
+{
+    ((x as u64 * y as u64) % Limits::MODULUS as u64) as u32
+}
+
+// Order 4: 1 if x, read with sign, is less than y read with sign.
+fn less(x: u32, y: u32) -> u32
+    requires { ⌜ (x < modulus) × (y < modulus) ⌝ }
+    ensures { λ r. ⌜ r ≡ lessThan x y ⌝ }
+{
+    if reading(x) < reading(y) {
+        return 1;
+    }
+    0
+}
+
+// Order 5: 1 if x and y are equal.
+fn equal(x: u32, y: u32) -> u32
+    ensures { λ r. ⌜ r ≡ sameAs x y ⌝ }
+{
+    if x == y {
+        return 1;
+    }
+    0
+}
+
+// What an order of a kind makes of its constant and of two cells; no order has an unknown kind.
+fn result(kind: u32, k: u32, x: u32, y: u32) -> u32
+    requires { ⌜ (x < modulus) × (y < modulus) ⌝ }
+    ensures { λ r. ⌜ r ≡ resultOf kind k x y ⌝ }
+{
+    match kind {
+        0 => k,
+        1 => sum(x, y),
+        2 => difference(x, y),
+        3 => product(x, y),
+        4 => less(x, y),
+        5 => equal(x, y),
+        6..=u32::MAX => 0,
+    }
+}
+
+// An order's numbers. A constant reads no cell: a and b are then 0; for other kinds k is 0.
+struct Parts {
+    kind: u32,
+    d: usize,
+    k: u32,
+    a: usize,
+    b: usize,
+}
+
+fn taken_apart(order: Order) -> Parts
+    ensures { λ r. ⌜ r ≡ partsOf order ⌝ }
+{
+    match order {
+        Order::Constant { d, k } => Parts {
+            kind: 0,
+            d,
+            k,
+            a: 0,
+            b: 0,
+        },
+        Order::Sum { d, a, b } => Parts {
+            kind: 1,
+            d,
+            k: 0,
+            a,
+            b,
+        },
+        Order::Difference { d, a, b } => Parts {
+            kind: 2,
+            d,
+            k: 0,
+            a,
+            b,
+        },
+        Order::Product { d, a, b } => Parts {
+            kind: 3,
+            d,
+            k: 0,
+            a,
+            b,
+        },
+        Order::Less { d, a, b } => Parts {
+            kind: 4,
+            d,
+            k: 0,
+            a,
+            b,
+        },
+        Order::Equal { d, a, b } => Parts {
+            kind: 5,
+            d,
+            k: 0,
+            a,
+            b,
+        },
+    }
+}
+
+// One order on the sheet: both cells are read before the target is written.
+pub fn step(sheet: &mut [u32], order: Order)
+    requires { ⌜ IsSheet (now sheet) ⌝ }
+    requires { ⌜ WellFormed order ⌝ }
+    ensures { λ _. ⌜ now (sheet .exit) ≡ stepOf (now (sheet .entry)) order ⌝ }
+{
+    let parts = taken_apart(order);
+    let a = parts.a;
+    let b = parts.b;
+    let d = parts.d;
+    let x = sheet[a];
+    let y = sheet[b];
+    sheet[d] = result(parts.kind, parts.k, x, y);
+}

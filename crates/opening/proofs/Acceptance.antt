@@ -1,0 +1,70 @@
+-- What is known of counts, lengths and cells that opening does not refuse, and the slice that it leaves.
+use Prim.Native.Nat.{ℕ, _*_, _≤_, _<_}
+use mathlib.Core.Path.{_≡_, refl, sym, ap, _∙_}
+use mathlib.Core.Bool.{Bool, true, false, _&&_, true≢false}
+use mathlib.Core.List.{List}
+use native.Mathlib.Nat.{mul-le-mul-right}
+use lib.Dec.{eqb}
+use lib.IntN.{ℤ}
+use lib.ListN.{length}
+use borrow.Author.Tests.{eqb-true}
+use Rattle.definitions.specs.Limits.{poolLimit, cellCount, modulus}
+use Rattle.definitions.specs.Answers.{Refusal, none, first, isNone}
+use Rattle.definitions.specs.Sheet.{resultCount}
+use Rattle.definitions.specs.Machine.{cell}
+use Rattle.definitions.specs.Calls.{countsRefusal, lengthRefusal, cellsRefusal, openRefusal, openedResults, openSlice}
+use Rattle.laws.specs.Refusal.{first-left, first-right, is-none, unless-none, unless-refused}
+use Rattle.judging.proofs.Sizes.{Counts, counted}
+use Rattle.residues.specs.Cells.{cells-below}
+
+-- the square of a pool count, for omega
+pub square : (m : ℕ) → m ≤ poolLimit → m * m ≤ poolLimit * m
+square m h = mul-le-mul-right m h
+
+pub record Lengths (n m cells results : ℕ) : Type 0 where
+  pub sheet : cells ≡ cellCount
+  pub out : results ≡ resultCount n m
+
+pub measured : (n m cells results : ℕ) → lengthRefusal (eqb cells cellCount && eqb results (resultCount n m)) ≡ none → Lengths n m cells results
+measured n m cells results = go (eqb cells cellCount) (eqb results (resultCount n m)) refl refl
+  where
+    go : (a b : Bool) → eqb cells cellCount ≡ a → eqb results (resultCount n m) ≡ b → lengthRefusal (a && b) ≡ none → Lengths n m cells results
+    go true true p q e = record { sheet = eqb-true cells cellCount p; out = eqb-true results (resultCount n m) q }
+    go true false p q e = absurd (true≢false (sym (ap isNone e)))
+    go false b p q e = absurd (true≢false (sym (ap isNone e)))
+
+pub record Openable (n m : ℕ) (sheet : List ℕ) (results : ℕ) : Type 0 where
+  pub counts : Counts n m
+  pub lengths : Lengths n m (length sheet) results
+  pub below : (c : ℕ) → cell sheet c < modulus
+
+pub openable : (n m : ℕ) (sheet : List ℕ) (results : ℕ) → openRefusal n m sheet results ≡ none → Openable n m sheet results
+unfolding openRefusal
+openable n m sheet results e =
+    let byCounts : Refusal = countsRefusal n m in
+    let byLengths : Refusal = lengthRefusal (eqb (length sheet) cellCount && eqb results (resultCount n m)) in
+    let byCells : Refusal = cellsRefusal sheet in
+    let after : first byLengths byCells ≡ none = first-right byCounts (first byLengths byCells) e in
+    record {
+      counts = counted n m (first-left byCounts (first byLengths byCells) e);
+      lengths = measured n m (length sheet) results (first-left byLengths byCells after);
+      below = cells-below sheet (first-right byLengths byCells after);
+    }
+
+-- ---- The slice after the call: r is what the verdict states, and t what `is_accepted` says of it
+
+module _ (n m : ℕ) (sheet : List ℕ) (out : List ℤ) (r : Refusal) (t : Bool) (stated : r ≡ openRefusal n m sheet (length out)) (tested : t ≡ isNone r) where
+  -- t is the test of the definition
+  test : (v : Bool) → t ≡ v → isNone (openRefusal n m sheet (length out)) ≡ v
+  test v e = ap isNone (sym stated) ∙ sym tested ∙ e
+
+  pub when-accepted : t ≡ true → Openable n m sheet (length out)
+  when-accepted e = openable n m sheet (length out) (is-none (openRefusal n m sheet (length out)) (test true e))
+
+  pub slice-written : t ≡ true → openedResults n m sheet ≡ openSlice n m sheet out
+  unfolding openSlice
+  slice-written e = sym (unless-none (openRefusal n m sheet (length out)) (openedResults n m sheet) out (test true e))
+
+  pub slice-kept : t ≡ false → out ≡ openSlice n m sheet out
+  unfolding openSlice
+  slice-kept e = sym (unless-refused (openRefusal n m sheet (length out)) (openedResults n m sheet) out (test false e))

@@ -1,0 +1,102 @@
+-- `copy_readings` meets its contract. The loop's invariant: i readings stand in `out`, the rest of which is as lent. The measure is what is left of it.
+use Prim.Native.Nat.{_+_, _-_, _<_, _≤_}
+use mathlib.Core.Path.{_≡_, refl, sym, _∙_}
+use mathlib.Core.List.{List}
+use native.Mathlib.Omega.{arith}
+use lib.IntN.{ℤ}
+use lib.ListN.{length, length-set}
+use lib.Seq.{paste, paste-zero}
+use mir.Syntax.{w32}
+use borrow.Author.Needs.{scaled-fits}
+use Rattle.laws.specs.SignedTests.{back}
+use Rattle.opening.proofs.Readings.{readings, readings-length, reading-at, one-more, all}
+use Rattle.opening.proofs.copy_readings.Statement.{statement}
+use Rattle.opening.proofs.copy_readings.Tie as tie
+
+abbrev Inv-loop : tie.InvT-loop
+Inv-loop sheet from out₀ i₀ out i = (i ≤ length out₀) × (length out ≡ length out₀) × (out ≡ paste out₀ 0 (readings sheet from (length out₀)) i)
+
+abbrev μ-loop : tie.MeasureT-loop
+μ-loop sheet from out₀ i₀ out i = length out₀ - i
+
+-- what is to be written
+abbrev source : tie.Start Inv-loop μ-loop → List ℤ
+source s = readings (s .args .sheet .now) (s .args .from) (length (s .args .out .now))
+
+source-length : (s : tie.Start Inv-loop μ-loop) → length (source s) ≡ length (s .args .out .now)
+source-length s = readings-length (s .args .sheet .now) (s .args .from) (length (s .args .out .now)) (s .pre .0)
+
+loop-holds : tie.Need-loop-holds Inv-loop μ-loop
+loop-holds c = (omega arith, refl, paste-zero (c .before .args .out .now) 0 (source (c .before)))
+
+add-c : tie.Need-add-c Inv-loop μ-loop
+add-c c = omega arith
+
+mul-x : tie.Need-mul-x Inv-loop μ-loop
+mul-x c =
+    let s = c .before .before .before in
+    let h : s .args .from + c .before .loop .i < length (s .args .sheet .now) = omega arith in
+    scaled-fits _ _ 4 h (s .good .0 .1)
+
+shared-slice-read-x : tie.Need-shared-slice-read-x Inv-loop μ-loop
+shared-slice-read-x c = omega arith
+
+reading-requires : tie.Need-reading-requires Inv-loop μ-loop
+reading-requires c κs = c .before .before .before .before .pre .1 _
+
+mul-r : tie.Need-mul-r Inv-loop μ-loop
+mul-r c =
+    let s = c .before .before .before .before .before in
+    let h : c .before .before .before .loop .i < length (s .args .out .now) = omega arith in
+    scaled-fits _ _ 4 h (s .good .1 .1 .0 .1)
+
+slice-set-from-r : tie.Need-slice-set-from-r Inv-loop μ-loop
+slice-set-from-r c = omega arith
+
+add-i : tie.Need-add-i Inv-loop μ-loop
+add-i c = omega arith
+
+loop-less : tie.Need-loop-less Inv-loop μ-loop
+loop-less c = omega arith
+
+loop-again : tie.Need-loop-again Inv-loop μ-loop
+loop-again c =
+    let s = c .before .before .before .before .before in
+    let a = s .args in
+    let l = c .before .before .before .loop in
+    let h : l .i < length (a .out .now) = omega arith in (
+      omega arith,
+      length-set (l .out) (l .i) _ ∙ l .inv .1,
+      one-more (a .out .now) (l .out) (source s) (l .i) _ (l .inv .2)
+          (back w32 (c .reading .result) (c .reading .ok) ∙ c .reading .ensures ∙ sym (reading-at (a .sheet .now) (a .from) (length (a .out .now)) (l .i) h))
+          h
+          (rw (source-length s) h),
+    )
+
+same-length : tie.Need-same-length Inv-loop μ-loop
+same-length c = omega arith
+
+returns : tie.Need-returns Inv-loop μ-loop
+returns c =
+    let s = c .before .before .before in
+    let l = c .before .loop in
+    all (s .args .out .now) (l .out) (source s) (l .i) (l .inv .2) (rw (source-length s) (omega arith)) (omega arith)
+
+pub copy-readings-spec : {M : Type 1} → statement M
+copy-readings-spec =
+    tie.close
+    (tie.spec
+    Inv-loop
+    μ-loop
+    loop-holds
+    add-c
+    mul-x
+    shared-slice-read-x
+    reading-requires
+    mul-r
+    slice-set-from-r
+    add-i
+    loop-less
+    loop-again
+    same-length
+    returns)

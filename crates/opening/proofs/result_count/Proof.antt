@@ -1,0 +1,24 @@
+-- `result_count` meets its contract: with at most 64 bids and 4 pools nothing overflows.
+use native.Mathlib.Omega.{arith}
+use borrow.Author.Needs.{needs}
+use Rattle.opening.proofs.Acceptance.{square}
+use Rattle.opening.proofs.result_count.Statement.{statement}
+use Rattle.opening.proofs.result_count.Tie as tie
+
+mul-result : tie.Need-mul-result
+mul-result c = omega (arith, square (c .args .m) (c .pre .1))
+
+add-result : tie.Need-add-result
+add-result c = omega (arith, square (c .args .m) (c .pre .1))
+
+mul-result-2 : tie.Need-mul-result-2
+mul-result-2 c = search needs
+
+add-result-2 : tie.Need-add-result-2
+add-result-2 c = omega (arith, square (c .args .m) (c .pre .1))
+
+returns : tie.Need-returns
+returns c = search needs
+
+pub result-count-spec : {M : Type 1} → statement M
+result-count-spec = tie.close (tie.spec mul-result add-result mul-result-2 add-result-2 returns)

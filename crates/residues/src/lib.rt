@@ -1,0 +1,31 @@
+// Whole numbers as residues modulo p, and back.
+ghost use mathlib.Core.Path.{_≡_};
+ghost use Prim.Native.Nat.{_<_};
+ghost use Rattle.definitions.specs.Limits.{modulus};
+ghost use Rattle.definitions.specs.Arithmetic as arithmetic;
+use definitions::Limits;
+
+// A number as a cell holds it: a negative one is raised by p. The least i32, which p does not raise to 0, becomes 0.
+pub fn residue(v: i32) -> u32
+    ensures { λ r. ⌜ r ≡ arithmetic.residue v ⌝ }
+{
+    if v < 0 {
+        let raised = v + Limits::MODULUS as i32;
+        if raised < 0 {
+            return 0;
+        }
+        return raised as u32;
+    }
+    v as u32
+}
+
+// A cell read with sign.
+pub fn reading(x: u32) -> i32
+    requires { ⌜ x < modulus ⌝ }
+    ensures { λ r. ⌜ r ≡ arithmetic.reading x ⌝ }
+{
+    if Limits::POSITIVE < x {
+        return x as i32 - Limits::MODULUS as i32;
+    }
+    x as i32
+}

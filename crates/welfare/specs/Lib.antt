@@ -1,0 +1,3 @@
+-- Welfare as one sum, and its size.
+pub mod IntegerSum
+pub mod Welfare
