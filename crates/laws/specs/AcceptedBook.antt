@@ -1,21 +1,22 @@
 -- What acceptance says of a book: its counts, its tables' lengths and its numbers as natural numbers (`accepted-sound`).
 use Prim.Native.Nat.{ℕ, zero, suc, _+_, _-_, _*_, _≤_, _<_}
 use mathlib.Core.Path.{_≡_, refl, sym, ap, _∙_}
-use mathlib.Core.Bool.{Bool, true, false, cond, _&&_, _||_, true≢false}
+use mathlib.Core.Bool.{Bool, true, false, cond, _&&_, true≢false}
 use native.Mathlib.Omega.{arith}
-use lib.Dec.{ltb, eqb, eqb·suc-suc}
+use lib.Dec.{eqb, eqb·suc-suc}
 use lib.ListN.{length}
 use lib.IntN.{ℤ, pos, negsuc, natAbs, _+ℤ_}
 use lib.Signed.{leZ}
-use borrow.Author.Tests.{ltb-false, eqb-true, eqb-false, eq-eqb, leb-true}
+use borrow.Author.Tests.{eq-eqb, leb-true}
 use Rattle.definitions.specs.Limits.{bidLimit, poolLimit, priceLimit, quantityLimit, capacityLimit, cellCount, bidNumbers}
 use Rattle.definitions.specs.Arithmetic.{within, eqZ}
 use Rattle.definitions.specs.Book.{Book, pool, price, quantity, size, inPool, capacityEntry, capacity}
-use Rattle.definitions.specs.Answers.{none, refuse, first, numbered}
+use Rattle.definitions.specs.Answers.{none, first, numbered}
 use Rattle.definitions.specs.Calls.{AcceptedBook, sealRefusal, countsRefusal, lengthRefusal, tablesRight, bidsRefusal, bidFault, capacitiesRefusal, rowRefusal, entryRefusal, capacityFault}
 use Rattle.laws.specs.Tests.{Lt?, less, more, lt?, and-left, and-right}
 use Rattle.laws.specs.SignedTests.{eqZ-true}
 use Rattle.laws.specs.Refusal.{first-left, first-right, all-none, numbered-zero}
+use Rattle.laws.specs.Sizes.{Sizes, accepted-sizes}
 
 -- the pool of bid i, from 0
 abbrev pub poolIndex : Book → ℕ → ℕ
@@ -99,58 +100,38 @@ sound-entry false z = go (within (pos 0) (pos capacityLimit) z) refl
     go true q e = let h = not-negative capacityLimit z q in (h .0, h .1, λ f. absurd (true≢false (sym f)))
     go false q e = absurd (omega arith)
 
--- ---- the counts
-
-counts : (n m : ℕ) → countsRefusal n m ≡ none → (n ≤ bidLimit) × (0 < m) × (m ≤ poolLimit)
-counts n m = go (ltb bidLimit n) (eqb m 0) (ltb poolLimit m) refl refl refl
-  where
-    go : (x y z : Bool) → ltb bidLimit n ≡ x → eqb m 0 ≡ y → ltb poolLimit m ≡ z → cond x (refuse 1 0) (cond (y || z) (refuse 2 0) none) ≡ none → (n ≤ bidLimit) × (0 < m) × (m ≤ poolLimit)
-    go true y z p q r e = let f : _≡_ {A = ℕ} 0 1 = cc in absurd (omega arith)
-    go false true z p q r e = let f : _≡_ {A = ℕ} 0 1 = cc in absurd (omega arith)
-    go false false true p q r e = let f : _≡_ {A = ℕ} 0 1 = cc in absurd (omega arith)
-    go false false false p q r e = (ltb-false bidLimit n p, omega (arith, eqb-false m 0 q), ltb-false poolLimit m r)
-
-lengths : (x y z : Bool) → lengthRefusal ((x && y) && z) ≡ none → (x ≡ true) × (y ≡ true)
-lengths true true z e = (refl, refl)
-lengths true false z e = let f : _≡_ {A = ℕ} 0 1 = cc in absurd (omega arith)
-lengths false y z e = let f : _≡_ {A = ℕ} 0 1 = cc in absurd (omega arith)
-
 module _ (B : Book) (accepted : AcceptedBook B) where
-  after-counts : first (lengthRefusal (tablesRight B && eqb cellCount cellCount)) (first (bidsRefusal B) (capacitiesRefusal B)) ≡ none
+  sizes : Sizes B cellCount
+  sizes = accepted-sizes B cellCount accepted
+
+  -- no bid and no capacity is refused
+  tables : first (bidsRefusal B) (capacitiesRefusal B) ≡ none
   unfolding sealRefusal
-  after-counts = first-right (countsRefusal (B .n) (B .m)) _ accepted
-
-  after-lengths : first (bidsRefusal B) (capacitiesRefusal B) ≡ none
-  after-lengths = first-right (lengthRefusal (tablesRight B && eqb cellCount cellCount)) _ after-counts
-
-  right-counts : (B .n ≤ bidLimit) × (0 < B .m) × (B .m ≤ poolLimit)
-  unfolding sealRefusal
-  right-counts = counts (B .n) (B .m) (first-left (countsRefusal (B .n) (B .m)) _ accepted)
-
-  right-lengths : (eqb (length (B .bids)) (bidNumbers * B .n) ≡ true) × (eqb (length (B .capacities)) (B .m * B .m) ≡ true)
-  right-lengths = lengths (eqb (length (B .bids)) (bidNumbers * B .n)) (eqb (length (B .capacities)) (B .m * B .m)) (eqb cellCount cellCount) (first-left (lengthRefusal (tablesRight B && eqb cellCount cellCount)) _ after-counts)
+  tables =
+      first-right (lengthRefusal (tablesRight B && eqb cellCount cellCount)) (first (bidsRefusal B) (capacitiesRefusal B))
+      (first-right (countsRefusal (B .n) (B .m)) (first (lengthRefusal (tablesRight B && eqb cellCount cellCount)) (first (bidsRefusal B) (capacitiesRefusal B))) accepted)
 
   right-bid : (i : ℕ) → i < B .n → SoundBid (B .m) (pool B i) (price B i) (quantity B i)
   unfolding bidsRefusal
   right-bid i l =
       sound-bid (B .m) (pool B i) (price B i) (quantity B i)
       (numbered-zero (bidFault (B .m) (pool B i) (price B i) (quantity B i)) (i + 1)
-      (all-none (B .n) (λ i. numbered (bidFault (B .m) (pool B i) (price B i) (quantity B i)) (i + 1)) (first-left (bidsRefusal B) (capacitiesRefusal B) after-lengths) i l))
+      (all-none (B .n) (λ i. numbered (bidFault (B .m) (pool B i) (price B i) (quantity B i)) (i + 1)) (first-left (bidsRefusal B) (capacitiesRefusal B) tables) i l))
 
   right-entry : (a b : ℕ) → a < B .m → b < B .m → capacityFault (eqb a b) (capacityEntry B a b) ≡ 0
   unfolding capacitiesRefusal rowRefusal
   right-entry a b l r =
       numbered-zero (capacityFault (eqb a b) (capacityEntry B a b)) (a * B .m + b + 1)
       (all-none (B .m) (λ b. entryRefusal B a b)
-      (all-none (B .m) (λ a. rowRefusal B a) (first-right (bidsRefusal B) (capacitiesRefusal B) after-lengths) a l) b r)
+      (all-none (B .m) (λ a. rowRefusal B a) (first-right (bidsRefusal B) (capacitiesRefusal B) tables) a l) b r)
 
   pub accepted-sound : Sound B
   accepted-sound = record {
-    bids = right-counts .0;
-    pools-positive = right-counts .1;
-    pools = right-counts .2;
-    bid-table = eqb-true _ _ (right-lengths .0);
-    capacity-table = eqb-true _ _ (right-lengths .1);
+    bids = sizes .counts .bids;
+    pools-positive = sizes .counts .pools .least;
+    pools = sizes .counts .pools .most;
+    bid-table = sizes .lengths .bid-table;
+    capacity-table = sizes .lengths .capacity-table;
     pool-is = λ i l. in-pools (B .m) (pool B i) (right-bid i l .in-range) .0;
     pool-index = λ i l. in-pools (B .m) (pool B i) (right-bid i l .in-range) .1;
     price-is = λ i l. raised 29999 (price B i) (right-bid i l .priced) .0;

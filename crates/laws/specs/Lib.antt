@@ -6,4 +6,6 @@ pub mod SignedTests
 pub mod IntegerSize
 pub mod Write
 pub mod Refusal
+pub mod Search
+pub mod Sizes
 pub mod AcceptedBook

@@ -14,7 +14,7 @@ use Rattle.definitions.specs.Sheet.{resultCount}
 use Rattle.definitions.specs.Machine.{cell}
 use Rattle.definitions.specs.Calls.{countsRefusal, lengthRefusal, cellsRefusal, openRefusal, openedResults, openSlice}
 use Rattle.laws.specs.Refusal.{first-left, first-right, is-none, unless-none, unless-refused}
-use Rattle.judging.proofs.Sizes.{Counts, counted}
+use Rattle.laws.specs.Sizes.{Counts, counted}
 use Rattle.residues.specs.Cells.{cells-below}
 
 -- the square of a pool count, for omega

@@ -5,8 +5,8 @@ use borrow.Author.Needs.{needs}
 use Rattle.definitions.specs.Answers.{none, numbered}
 use Rattle.definitions.specs.Calls.{poolsRefusal, bidFault}
 use Rattle.judging.proofs.Range.{bid-read-back}
-use Rattle.judging.proofs.Search.{first-to-refuse, let-through, after-none}
-use Rattle.judging.proofs.Sizes.{pools-counted}
+use Rattle.laws.specs.Search.{first-to-refuse, let-through, after-none}
+use Rattle.laws.specs.Sizes.{pools-counted}
 use Rattle.judging.proofs.judge_bid.Statement.{statement}
 use Rattle.judging.proofs.judge_bid.Tie as tie
 

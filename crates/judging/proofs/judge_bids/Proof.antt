@@ -12,7 +12,7 @@ use Rattle.definitions.specs.Answers.{Refusal, refusalOf, numbered}
 use Rattle.definitions.specs.Book.{Book, book, pool, price, quantity}
 use Rattle.definitions.specs.Calls.{firstFrom, bidFault, bidsRefusal}
 use Rattle.judging.proofs.Range.{bid-read-back}
-use Rattle.judging.proofs.Search.{turned-away, let-through, search-begins, search-passes, search-stops, search-ends}
+use Rattle.laws.specs.Search.{turned-away, let-through, search-begins, search-passes, search-stops, search-ends}
 use Rattle.judging.proofs.judge_bids.Statement.{statement}
 use Rattle.judging.proofs.judge_bids.Tie as tie
 

@@ -11,8 +11,8 @@ use Rattle.definitions.specs.Limits.{cellCount}
 use Rattle.definitions.specs.Answers.{Refusal, none, first, refusalOf}
 use Rattle.definitions.specs.Book.{Book, book}
 use Rattle.definitions.specs.Calls.{countsRefusal, lengthRefusal, tablesRight, bidsRefusal, rowRefusal, capacitiesRefusal, sealRefusal}
-use Rattle.judging.proofs.Search.{first-to-refuse, let-through, after-none}
-use Rattle.judging.proofs.Sizes.{Counts, counted, Lengths, measured}
+use Rattle.laws.specs.Search.{first-to-refuse, let-through, after-none}
+use Rattle.laws.specs.Sizes.{Counts, counted, Lengths, measured}
 use Rattle.judging.proofs.judge_book.Statement.{statement}
 use Rattle.judging.proofs.judge_book.Tie as tie
 

@@ -16,7 +16,7 @@ use Rattle.definitions.specs.Answers.{isNone, refusalOf, numbered}
 use Rattle.definitions.specs.Book.{Book, book}
 use Rattle.definitions.specs.Calls.{firstFrom, capacityFault, entryRefusal, rowRefusal, capacitiesRefusal}
 use Rattle.laws.specs.SignedTests.{back}
-use Rattle.judging.proofs.Search.{turned-away, let-through, search-begins, search-passes, search-stops, search-ends}
+use Rattle.laws.specs.Search.{turned-away, let-through, search-begins, search-passes, search-stops, search-ends}
 use Rattle.judging.proofs.judge_capacities.Statement.{statement}
 use Rattle.judging.proofs.judge_capacities.Tie as tie
 

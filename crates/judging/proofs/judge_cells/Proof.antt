@@ -12,7 +12,7 @@ use Rattle.definitions.specs.Limits.{modulus}
 use Rattle.definitions.specs.Answers.{Refusal, none, refuse, isNone}
 use Rattle.definitions.specs.Machine.{cell}
 use Rattle.definitions.specs.Calls.{firstFrom, cellsRefusal}
-use Rattle.judging.proofs.Search.{search-begins, search-passes, search-stops, search-ends}
+use Rattle.laws.specs.Search.{search-begins, search-passes, search-stops, search-ends}
 use Rattle.judging.proofs.judge_cells.Statement.{statement}
 use Rattle.judging.proofs.judge_cells.Tie as tie
 

@@ -8,8 +8,8 @@ use Rattle.definitions.specs.Limits.{cellCount}
 use Rattle.definitions.specs.Answers.{Refusal, none, first}
 use Rattle.definitions.specs.Sheet.{resultCount}
 use Rattle.definitions.specs.Calls.{countsRefusal, lengthRefusal, cellsRefusal, openRefusal}
-use Rattle.judging.proofs.Search.{first-to-refuse, let-through, after-none}
-use Rattle.judging.proofs.Sizes.{counted}
+use Rattle.laws.specs.Search.{first-to-refuse, let-through, after-none}
+use Rattle.laws.specs.Sizes.{counted}
 use Rattle.opening.proofs.judge_opening.Statement.{statement}
 use Rattle.opening.proofs.judge_opening.Tie as tie
 

@@ -13,8 +13,8 @@ use Rattle.definitions.specs.Book.{Book, book}
 use Rattle.definitions.specs.Sheet.{sealedSheet}
 use Rattle.definitions.specs.Calls.{sealRefusal, sealSheet}
 use Rattle.laws.specs.Refusal.{unless-refused}
-use Rattle.judging.proofs.Search.{turned-away, let-through}
-use Rattle.judging.proofs.Sizes.{Sizes, accepted-sizes}
+use Rattle.laws.specs.Search.{turned-away, let-through}
+use Rattle.laws.specs.Sizes.{Sizes, accepted-sizes}
 use Rattle.sealing.proofs.seal.Statement.{statement}
 use Rattle.sealing.proofs.seal.Tie as tie
 
