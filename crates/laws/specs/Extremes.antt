@@ -63,3 +63,8 @@ max-at (suc k) f = go (max-at k f) (decLe (maxTo k f) (f k))
     go a (yes q) = inr (k, omega arith, omega arith)
     go (inl p) (no q) = inl (omega arith)
     go (inr p) (no q) = inr (p .0, omega arith, omega arith)
+
+pub max-ext : (k : ℕ) (f h : ℕ → ℕ) → ((i : ℕ) → i < k → f i ≡ h i) → maxTo k f ≡ maxTo k h
+unfolding maxTo
+max-ext zero f h e = refl
+max-ext (suc k) f h e = ap₂ max (max-ext k f h (λ i l. e i (omega arith))) (e k (omega arith))

@@ -1,0 +1,3 @@
+-- The plan computes the theory's closed forms, and so it clears.
+pub mod Values
+pub mod PlanClears

@@ -1,0 +1,189 @@
+-- The plan's blocks of orders, from the counts n and m only.
+use mathlib.Core.Bool.{Bool, true, false, cond}
+use mathlib.Core.List.{List, [], _∷_, _++_}
+use Prim.Native.Nat.{ℕ, suc, _+_, _*_, _%_, _/_, _^_}
+use lib.Dec.{ltb}
+use Rattle.definitions.specs.Limits.{priceLimit, greatestPositive}
+use Rattle.plan.specs.Orders.{OrderOn, constant, sum, difference, product, less, equal, Name, at}
+use Rattle.plan.specs.Loops.{loop}
+use Rattle.plan.specs.Names.{units, shifts, Pool, Price, Quantity, Capacity, Amount, Flow, PoolPrice, Presence, Temporary, Blank, One, Shift, PoolNumber, Side, Size, Rate, Double, Key, Next, Place, Weight, Demand, Subset, Cut, Ahead, Low, Reach, High, Used, Placement, Slack, Offer, Peak}
+use Rattle.plan.specs.Subsets.{leaves, complement}
+use Rattle.plan.specs.Running.{lowered, raised, subsetBlock}
+
+abbrev pub Block : Type 0
+Block = List (OrderOn Name)
+
+-- ---- constants
+
+abbrev pub unitBlock : ℕ → Block
+unitBlock i = constant (at units i 0) 1 ∷ []
+
+abbrev pub shiftBlock : ℕ → Block
+shiftBlock i = constant (at shifts i 0) (suc priceLimit) ∷ []
+
+abbrev pub poolNumberBlock : ℕ → Block
+poolNumberBlock p = constant (PoolNumber p) (suc p) ∷ []
+
+-- ---- each bid's numbers
+
+abbrev pub sideBlock : ℕ → Block
+sideBlock i = less (Side i) Blank (Quantity i) ∷ []
+
+abbrev pub sizeBlock : ℕ → Block
+sizeBlock i =
+    product (Temporary 0) (Quantity i) (Side i)
+    ∷ difference (Temporary 1) (Quantity i) (Temporary 0)
+    ∷ difference (Size i) (Temporary 0) (Temporary 1)
+    ∷ []
+
+abbrev pub rateBlock : ℕ → Block
+rateBlock i = sum (Rate i) (Price i) Shift ∷ []
+
+abbrev pub doubleBlock : ℕ → Block
+doubleBlock i = sum (Double i) (Rate i) (Rate i) ∷ []
+
+abbrev pub keyBlock : ℕ → Block
+keyBlock i = sum (Key i) (Double i) (Side i) ∷ []
+
+abbrev pub nextBlock : ℕ → Block
+nextBlock i = sum (Next i) (Double i) One ∷ []
+
+abbrev pub placeBlock : (i p : ℕ) → Block
+placeBlock i p = equal (Place i p) (Pool i) (PoolNumber p) ∷ []
+
+abbrev pub weightBlock : (i p : ℕ) → Block
+weightBlock i p = product (Weight i p) (Place i p) (Size i) ∷ []
+
+-- ---- the cuts
+
+abbrev pub demandTurn : (p i : ℕ) → Block
+demandTurn p i = product (Temporary 0) (Side i) (Weight i p) ∷ sum (Demand p) (Demand p) (Temporary 0) ∷ []
+
+abbrev pub demandBlock : (n p : ℕ) → Block
+demandBlock n p = constant (Demand p) 0 ∷ loop n (demandTurn p)
+
+-- the sums of cells X over all subsets
+abbrev pub subsetBlocks : (m : ℕ) → (ℕ → Name) → Block
+subsetBlocks m X = loop (2 ^ m) (subsetBlock m X)
+
+-- the blank cell where the line does not leave the set: every turn is one order
+abbrev pub cutTurn : (S a b : ℕ) → Block
+cutTurn S a b = sum (Cut S) (Cut S) (cond (leaves S a b) (Capacity a b) Blank) ∷ []
+
+abbrev pub cutBlock : (m S : ℕ) → Block
+cutBlock m S = sum (Cut S) (Subset S) Blank ∷ loop m (λ a. loop m (cutTurn S a))
+
+-- ---- the ranks
+
+-- is bid j before bid i? The tests say j < i and i < j.
+abbrev pub testAt : Bool → Bool → (i j : ℕ) → OrderOn Name
+testAt true y i j = less (Temporary 0) (Key j) (Next i)
+testAt false true i j = less (Temporary 0) (Double j) (Key i)
+testAt false false i j = less (Temporary 0) Blank Blank
+
+abbrev pub testOrder : (i j : ℕ) → OrderOn Name
+testOrder i j = testAt (ltb j i) (ltb i j) i j
+
+abbrev pub gain : (i j p : ℕ) → Block
+gain i j p = product (Temporary 1) (Temporary 0) (Weight j p) ∷ sum (Ahead i p) (Ahead i p) (Temporary 1) ∷ []
+
+abbrev pub aheadTurn : (m i j : ℕ) → Block
+aheadTurn m i j = testOrder i j ∷ loop m (gain i j)
+
+abbrev pub aheadStart : (i p : ℕ) → Block
+aheadStart i p = constant (Ahead i p) 0 ∷ []
+
+abbrev pub aheadBlock : (n m i : ℕ) → Block
+aheadBlock n m i = loop m (aheadStart i) ++ loop n (aheadTurn m i)
+
+-- lower d to what the set S costs: its cut, and the subset's sum outside it
+abbrev pub costTurn : (m : ℕ) (d : Name) (S : ℕ) → Block
+costTurn m d S = sum (Temporary 2) (Cut S) (Subset (complement m S)) ∷ lowered d (Temporary 2)
+
+abbrev pub costLoop : (m : ℕ) (d : Name) → Block
+costLoop m d = constant d greatestPositive ∷ loop (2 ^ m) (costTurn m d)
+
+abbrev pub rankBlock : (m : ℕ) → (ℕ → Name) → (d : Name) → Block
+rankBlock m X d = subsetBlocks m X ++ costLoop m d
+
+abbrev pub lowBlock : (m i : ℕ) → Block
+lowBlock m i = rankBlock m (Ahead i) (Low i)
+
+abbrev pub reachBlock : (i p : ℕ) → Block
+reachBlock i p = sum (Reach i p) (Ahead i p) (Weight i p) ∷ []
+
+abbrev pub highBlock : (m i : ℕ) → Block
+highBlock m i = rankBlock m (Reach i) (High i)
+
+-- ---- the amounts
+
+abbrev pub useBlock : ℕ → Block
+useBlock i = difference (Used i) (High i) (Low i) ∷ []
+
+abbrev pub amountBlock : ℕ → Block
+amountBlock i =
+    difference (Temporary 0) (Size i) (Used i)
+    ∷ difference (Temporary 0) (Temporary 0) (Used i)
+    ∷ product (Temporary 0) (Temporary 0) (Side i)
+    ∷ sum (Amount i) (Used i) (Temporary 0)
+    ∷ []
+
+-- ---- the flows
+
+abbrev pub placementTurn : (p i : ℕ) → Block
+placementTurn p i = product (Temporary 0) (Place i p) (Used i) ∷ sum (Placement p) (Placement p) (Temporary 0) ∷ []
+
+abbrev pub placementBlock : (n p : ℕ) → Block
+placementBlock n p = constant (Placement p) 0 ∷ loop n (placementTurn p)
+
+abbrev pub slackBlock : ℕ → Block
+slackBlock S = difference (Slack S) (Cut S) (Subset S) ∷ []
+
+-- where the set does not separate the line's ends, the least is taken with the capacity again
+abbrev pub restCell : Bool → (S a b : ℕ) → Name
+restCell true S a b = Slack S
+restCell false S a b = Capacity a b
+
+abbrev pub restTurn : (a b S : ℕ) → Block
+restTurn a b S = lowered (Temporary 2) (restCell (leaves S a b) S a b)
+
+-- what comes off a slack: the rest, the flow, or nothing
+abbrev pub takenCell : Bool → Bool → (l : ℕ) → Name
+takenCell true y l = Temporary 2
+takenCell false true l = Flow l
+takenCell false false l = Blank
+
+abbrev pub takeTurn : (l a b S : ℕ) → Block
+takeTurn l a b S = difference (Slack S) (Slack S) (takenCell (leaves S a b) (leaves S b a) l) ∷ []
+
+abbrev pub restPart : (m a b : ℕ) → Block
+restPart m a b = sum (Temporary 2) (Capacity a b) Blank ∷ loop (2 ^ m) (restTurn a b)
+
+abbrev pub flowPart : (m l a b : ℕ) → Block
+flowPart m l a b = difference (Flow l) (Capacity a b) (Temporary 2) ∷ loop (2 ^ m) (takeTurn l a b)
+
+abbrev pub lineBlock : (m l : ℕ) → Block
+lineBlock m l = restPart m (l / m) (l % m) ++ flowPart m l (l / m) (l % m)
+
+-- ---- the prices
+
+abbrev pub offerBlock : ℕ → Block
+offerBlock i =
+    less (Temporary 0) Blank (Amount i)
+    ∷ difference (Temporary 1) One (Side i)
+    ∷ product (Temporary 0) (Temporary 0) (Temporary 1)
+    ∷ product (Offer i) (Temporary 0) (Rate i)
+    ∷ []
+
+abbrev pub peakTurn : (p i : ℕ) → Block
+peakTurn p i = product (Temporary 2) (Place i p) (Offer i) ∷ raised (Peak p) (Temporary 2)
+
+abbrev pub peakBlock : (n p : ℕ) → Block
+peakBlock n p = constant (Peak p) 0 ∷ loop n (peakTurn p)
+
+abbrev pub priceBlock : ℕ → Block
+priceBlock p =
+    less (Presence p) Blank (Peak p)
+    ∷ difference (Temporary 0) (Peak p) Shift
+    ∷ product (PoolPrice p) (Temporary 0) (Presence p)
+    ∷ []

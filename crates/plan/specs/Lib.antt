@@ -1,0 +1,26 @@
+-- The plan of n bids and m pools, and what it leaves on a sealed sheet.
+pub mod Orders
+pub mod Residues
+pub mod Loops
+pub mod Holds
+pub mod Names
+pub mod Subsets
+pub mod Values
+pub mod Running
+pub mod Merit
+pub mod Blocks
+pub mod Bounds
+pub mod Bids
+pub mod Cuts
+pub mod Ranks
+pub mod Lines
+pub mod Prices
+pub mod Tree
+pub mod Work
+pub mod Whole
+pub mod Layout
+pub mod Simulation
+pub mod Proper
+pub mod Plan
+pub mod Sealed
+pub mod Cleared

@@ -1,0 +1,200 @@
+-- The phases that fill the placements, the slacks and the flows; the slacks change from line to line.
+use mathlib.Core.Path.{_≡_, refl, sym, ap, _∙_}
+use mathlib.Core.Logic.{_≢_, _⊎_, inl, inr}
+use mathlib.Core.Bool.{Bool, true, false, not, cond}
+use mathlib.Core.List.{List, [], _∷_, _++_}
+use Prim.Native.Nat.{ℕ, zero, suc, _+_, _-_, _*_, _%_, _/_, _^_, _≤_, _<_, min}
+use native.Mathlib.Nat.{mod-lt, div-lt-iff-lt-mul, eq-or-lt-of-le, le-of-suc-le-suc, not-suc-le-zero}
+use native.Mathlib.Omega.{arith}
+use lib.Arith.{lt-one}
+use lib.Dec.{eqb, lit<}
+use borrow.Author.Tests.{ne-eqb}
+use Rattle.definitions.specs.Limits.{modulus, greatestPositive, poolLimit}
+use Rattle.definitions.specs.Arithmetic.{on, sumTo}
+use Rattle.definitions.specs.Book.{Book, capacity}
+use Rattle.laws.specs.Extremes.{minTo, min-le-start}
+use Rattle.laws.specs.AcceptedBook.{poolIndex, Sound}
+use Rattle.plan.specs.Orders.{OrderOn, constant, sum, difference, Name, same, run, State}
+use Rattle.plan.specs.Residues.{plus-small, minus-small, times-on, min-small}
+use Rattle.plan.specs.Loops.{loop, run-append, loop-invariant, among, writes, writes-append, writes-loop, keep, keep-loop, eqb-same, loop-own}
+use Rattle.plan.specs.Holds.{Holds, Phase, holds-keep, holds-part, fill-column, fill-after}
+use Rattle.plan.specs.Names.{capacities, blanks, places, subsets, cuts, uses, placements, slacks, flows, temporaries, Blank, Temporary, Capacity, Flow, Subset, Cut, Placement, Slack}
+use Rattle.plan.specs.Subsets.{leaves, subsetSum}
+use Rattle.plan.specs.Running.{accumulate, gather, Lowers, lower, lowered, subset-sums}
+use Rattle.plan.specs.Values.{tables, cut, usedAmount, placement, slack, restOf, flowOf, takenOf, slackAfter, lineFlow}
+use Rattle.plan.specs.Blocks.{Block, placementTurn, placementBlock, subsetBlocks, slackBlock, restCell, restTurn, takenCell, takeTurn, restPart, flowPart, lineBlock}
+use Rattle.plan.specs.Cuts.{subsets-frame}
+use Rattle.plan.specs.Bounds.{Theory, sizeTotal, cutTotal, sum-limit, cut-small, slack-after-small, used-small, placement-small}
+
+-- the ends of line l are pools
+pub line-ends : (m l : ℕ) → l < m * m → (l / m < m) × (l % m < m)
+line-ends zero l h = absurd (omega arith)
+line-ends (suc m) l h = let positive : 0 < suc m = omega arith in (div-lt-iff-lt-mul positive .1 h, mod-lt l positive)
+
+-- what a line writes: of the flows only its own
+line-frame : (m l a b : ℕ) → writes (among (flows ∷ temporaries ∷ slacks ∷ [])) (restPart m a b ++ flowPart m l a b) ≡ true
+line-frame m l a b =
+    let W : Name → Bool = among (flows ∷ temporaries ∷ slacks ∷ []) in
+    writes-append W (restPart m a b) (flowPart m l a b) (writes-loop W (2 ^ m) (restTurn a b) (λ _ _. refl)) (writes-loop W (2 ^ m) (takeTurn l a b) (λ _ _. refl))
+
+line-off : (m l a b k : ℕ) → k ≢ l → writes (λ c. not (same (Flow k) c)) (restPart m a b ++ flowPart m l a b) ≡ true
+line-off m l a b k h =
+    let W : Name → Bool = λ c. not (same (Flow k) c) in
+    writes-append W (restPart m a b) (flowPart m l a b) (writes-loop W (2 ^ m) (restTurn a b) (λ _ _. refl)) (rw (ne-eqb k l h) (writes-loop W (2 ^ m) (takeTurn l a b) (λ _ _. refl)))
+
+module _ (B : Book) (sound : Sound B) (theory : Theory B) where
+  -- ---- what is used in each pool
+
+  abbrev Amounts : State → Type 0
+  Amounts = Holds (tables B) (places ∷ uses ∷ [])
+
+  placement-value : (p : ℕ) (t : State) → p < B .m → Amounts t → run (placementBlock (B .n) p) t (Placement p) ≡ placement B p
+  unfolding placement
+  placement-value p t b h =
+      gather Amounts (Placement p) (loop (B .n) (placementTurn p)) (placement B p)
+      (holds-keep (tables B) (placements ∷ []) (places ∷ uses ∷ []) refl (constant (Placement p) 0 ∷ []) refl)
+      (accumulate Amounts (Placement p) (B .n) (placementTurn p) (λ i. on (eqb (poolIndex B i) p) (usedAmount B i))
+      (λ i l r g c. (
+        holds-keep (tables B) (placements ∷ temporaries ∷ []) (places ∷ uses ∷ []) refl (placementTurn p i) refl r g,
+        rw (eqb-same p, g places refl i p l b, g uses refl i 0 l (lit< tt), times-on (eqb (poolIndex B i) p) (usedAmount B i) (omega (arith, used-small B sound theory i l)))
+            (plus-small (r (Placement p)) (on (eqb (poolIndex B i) p) (usedAmount B i)) c),
+      )))
+      t h (omega (arith, placement-small B sound theory p)) .1
+
+  pub placement-phase : Phase (tables B) (places ∷ uses ∷ []) placements (temporaries ∷ []) (loop (B .m) (placementBlock (B .n)))
+  placement-phase = fill-column (tables B) (places ∷ uses ∷ []) placements (temporaries ∷ []) refl refl refl (placementBlock (B .n))
+      (λ p. rw (eqb-same p) (writes-loop _ (B .n) (placementTurn p) (λ i _. rw (eqb-same p)))) placement-value
+
+  -- ---- the slacks before the first line
+
+  abbrev Summed : State → Type 0
+  Summed t = Holds (tables B) (cuts ∷ []) t × ((S : ℕ) → S < 2 ^ B .m → t (Subset S) ≡ subsetSum (B .m) (placement B) S)
+
+  placements-small : sumTo (B .m) (placement B) ≤ poolLimit * sizeTotal
+  placements-small = sum-limit (B .m) poolLimit (placement B) sizeTotal (sound .pools) (λ p _. placement-small B sound theory p)
+
+  pub slack-phase : Phase (tables B) (placements ∷ cuts ∷ []) slacks (subsets ∷ []) (subsetBlocks (B .m) Placement ++ loop (2 ^ B .m) slackBlock)
+  unfolding slack
+  slack-phase =
+      fill-after (tables B) (placements ∷ cuts ∷ []) slacks (subsets ∷ []) refl refl (subsetBlocks (B .m) Placement) slackBlock Summed (subsets-frame (B .m) Placement)
+      (λ S. rw (eqb-same S))
+      (λ s h. (
+        holds-keep (tables B) (subsets ∷ []) (cuts ∷ []) refl (subsetBlocks (B .m) Placement) (subsets-frame (B .m) Placement) s (holds-part (tables B) (placements ∷ cuts ∷ []) (cuts ∷ []) refl s h),
+        subset-sums (B .m) Placement (λ p. refl) (placement B) (omega (arith, placements-small)) s (λ p b. h placements refl p 0 b (lit< tt)),
+      ))
+      (λ S t l h. (holds-keep (tables B) (slacks ∷ []) (cuts ∷ []) refl (slackBlock S) refl t (h .0), λ R a. h .1 R a))
+      (λ S j t a b h. rw (lt-one b, eqb-same S, h .0 cuts refl S 0 a (lit< tt), h .1 S a)
+      (minus-small (cut B S) (subsetSum (B .m) (placement B) S) (omega (arith, cut-small B sound S)) (theory .placement-cut S a)))
+
+  -- ---- one line, a to b, with slacks x
+
+  abbrev lineReads : List ℕ
+  lineReads = capacities ∷ blanks ∷ []
+
+  module _ (x : ℕ → ℕ) (l a b : ℕ) (la : a < B .m) (lb : b < B .m) (small : (S : ℕ) → x S ≤ cutTotal) (fits : (S : ℕ) → S < 2 ^ B .m → takenOf B x a b S ≤ x S) where
+    abbrev Slacks : State → Type 0
+    Slacks t = Holds (tables B) lineReads t × ((S : ℕ) → S < 2 ^ B .m → t (Slack S) ≡ x S)
+
+    slacks-keep : (o : Block) → writes (among (temporaries ∷ flows ∷ [])) o ≡ true → (t : State) → Slacks t → Slacks (run o t)
+    slacks-keep o w t g = (
+      holds-keep (tables B) (temporaries ∷ flows ∷ []) lineReads refl o w t (g .0),
+      λ S c. keep (among (temporaries ∷ flows ∷ [])) o (Slack S) t w refl ∙ g .1 S c,
+    )
+
+    rest-lowers : (S : ℕ) → S < 2 ^ B .m → Lowers Slacks (Temporary 2) (restTurn a b S) (cond (leaves S a b) (x S) (capacity B a b))
+    rest-lowers S c t g h = (slacks-keep (restTurn a b S) refl t g, go (leaves S a b))
+      where
+        go : (u : Bool) → run (lowered (Temporary 2) (restCell u S a b)) t (Temporary 2) ≡ min (t (Temporary 2)) (cond u (x S) (capacity B a b))
+        go true = rw (g .1 S c) (min-small (t (Temporary 2)) (x S) h (omega (arith, small S)))
+        go false = rw (g .0 capacities refl a b la lb) (min-small (t (Temporary 2)) (capacity B a b) h (omega (arith, sound .capacity-small a b la lb)))
+
+    rest-value : (t : State) → Slacks t → Slacks (run (restPart (B .m) a b) t) × (run (restPart (B .m) a b) t (Temporary 2) ≡ restOf B x a b)
+    unfolding restOf
+    rest-value t g =
+        let one : Block = sum (Temporary 2) (Capacity a b) Blank ∷ [] in
+        let u : State = run one t in
+        let least : ℕ → ℕ = λ c. minTo c (2 ^ B .m) (λ S. cond (leaves S a b) (x S) (capacity B a b)) in
+        let e : u (Temporary 2) ≡ capacity B a b
+        = rw (g .0 capacities refl a b la lb, g .0 blanks refl 0 0 (lit< tt) (lit< tt)) (omega (arith, sound .capacity-small a b la lb)) in
+        let r : Slacks (run (loop (2 ^ B .m) (restTurn a b)) u) × (run (loop (2 ^ B .m) (restTurn a b)) u (Temporary 2) ≡ least (u (Temporary 2)))
+        = lower Slacks (Temporary 2) (2 ^ B .m) (restTurn a b) (λ S. cond (leaves S a b) (x S) (capacity B a b)) rest-lowers u (slacks-keep one refl t g) (omega (arith, sound .capacity-small a b la lb)) in
+        (r .0, r .1 ∙ ap least e)
+
+    -- from a state that holds the slacks, the rest and the flow
+    take-value : (t : State) → Slacks t → t (Temporary 2) ≡ restOf B x a b → t (Flow l) ≡ flowOf B x a b → (S : ℕ) → S < 2 ^ B .m
+        → run (loop (2 ^ B .m) (takeTurn l a b)) t (Slack S) ≡ x S - takenOf B x a b S
+    take-value t g r f S c =
+        let own : (run (loop (2 ^ B .m) (takeTurn l a b)) t (Slack S) ≡ run (takeTurn l a b S) (run (loop S (takeTurn l a b)) t) (Slack S)) × (run (loop S (takeTurn l a b)) t (Slack S) ≡ t (Slack S))
+        = loop-own (2 ^ B .m) (takeTurn l a b) (Slack S) t S c (λ q w ne. rw (ne-eqb q S ne)) in
+        own .0 ∙ rw (eqb-same S, own .1, g .1 S c, taken (leaves S a b) (leaves S b a))
+        (minus-small (x S) (takenOf B x a b S) (omega (arith, small S)) (fits S c))
+      where
+        u : State
+        u = run (loop S (takeTurn l a b)) t
+
+        kept : (d : Name) → among (slacks ∷ []) d ≡ false → u d ≡ t d
+        kept d e = keep-loop (among (slacks ∷ [])) S (takeTurn l a b) d t (λ _ _. refl) e
+
+        taken : (v w : Bool) → u (takenCell v w l) ≡ cond v (restOf B x a b) (on w (flowOf B x a b))
+        taken true w = kept (Temporary 2) refl ∙ r
+        taken false true = kept (Flow l) refl ∙ f
+        taken false false = kept Blank refl ∙ g .0 blanks refl 0 0 (lit< tt) (lit< tt)
+
+    rest-le : restOf B x a b ≤ capacity B a b
+    unfolding restOf
+    rest-le = min-le-start (capacity B a b) (2 ^ B .m) _
+
+    take-frame : writes (among (slacks ∷ [])) (loop (2 ^ B .m) (takeTurn l a b)) ≡ true
+    take-frame = writes-loop _ (2 ^ B .m) (takeTurn l a b) (λ _ _. refl)
+
+    flow-value : (t : State) → Slacks t → t (Temporary 2) ≡ restOf B x a b
+        → (run (flowPart (B .m) l a b) t (Flow l) ≡ flowOf B x a b) × ((S : ℕ) → S < 2 ^ B .m → run (flowPart (B .m) l a b) t (Slack S) ≡ x S - takenOf B x a b S)
+    unfolding flowOf
+    flow-value t g r =
+        let one : Block = difference (Flow l) (Capacity a b) (Temporary 2) ∷ [] in
+        let u : State = run one t in
+        let e : u (Flow l) ≡ flowOf B x a b
+        = rw (eqb-same l, g .0 capacities refl a b la lb, r) (minus-small (capacity B a b) (restOf B x a b) (omega (arith, sound .capacity-small a b la lb)) rest-le) in (
+          keep (among (slacks ∷ [])) (loop (2 ^ B .m) (takeTurn l a b)) (Flow l) u take-frame refl ∙ e,
+          take-value u (slacks-keep one refl t g) r e,
+        )
+
+  -- ---- all the lines
+
+  -- the slacks after k lines, and their flows
+  abbrev Fixed : ℕ → State → Type 0
+  Fixed k t = Holds (tables B) lineReads t × ((S : ℕ) → S < 2 ^ B .m → t (Slack S) ≡ slackAfter B k S) × ((q : ℕ) → q < k → t (Flow q) ≡ lineFlow B q)
+
+  line-turn : (l : ℕ) (t : State) → l < B .m * B .m → Fixed l t → Fixed (suc l) (run (lineBlock (B .m) l) t)
+  unfolding slackAfter
+  line-turn l t h i =
+      let a : ℕ = l / B .m in
+      let b : ℕ = l % B .m in
+      let x : ℕ → ℕ = slackAfter B l in
+      let la : a < B .m = line-ends (B .m) l h .0 in
+      let lb : b < B .m = line-ends (B .m) l h .1 in
+      let small : (S : ℕ) → x S ≤ cutTotal = slack-after-small B sound l in
+      let fits : (S : ℕ) → S < 2 ^ B .m → takenOf B x a b S ≤ x S = λ S. theory .taken-slack l S h in
+      let first : Slacks x l a b la lb small fits (run (restPart (B .m) a b) t) × (run (restPart (B .m) a b) t (Temporary 2) ≡ restOf B x a b) = rest-value x l a b la lb small fits t (i .0, i .1) in
+      let r : (run (flowPart (B .m) l a b) (run (restPart (B .m) a b) t) (Flow l) ≡ flowOf B x a b) × ((S : ℕ) → S < 2 ^ B .m → run (flowPart (B .m) l a b) (run (restPart (B .m) a b) t) (Slack S) ≡ x S - takenOf B x a b S)
+      = flow-value x l a b la lb small fits (run (restPart (B .m) a b) t) (first .0) (first .1) in
+      let e : run (lineBlock (B .m) l) t ≡ run (flowPart (B .m) l a b) (run (restPart (B .m) a b) t) = run-append (restPart (B .m) a b) (flowPart (B .m) l a b) t in (
+        holds-keep (tables B) (flows ∷ temporaries ∷ slacks ∷ []) lineReads refl (lineBlock (B .m) l) (line-frame (B .m) l a b) t (i .0),
+        λ S c. ap (λ (w : State). w (Slack S)) e ∙ r .1 S c,
+        λ q c. go q (eq-or-lt-of-le (le-of-suc-le-suc c)) (ap (λ (w : State). w (Flow l)) e ∙ r .0)
+            (λ k ne. keep (λ d. not (same (Flow k) d)) (lineBlock (B .m) l) (Flow k) t (line-off (B .m) l a b k ne) (rw (eqb-same k))),
+      )
+    where
+      go : (q : ℕ) → (q ≡ l) ⊎ (q < l) → run (lineBlock (B .m) l) t (Flow l) ≡ lineFlow B l → ((k : ℕ) → k ≢ l → run (lineBlock (B .m) l) t (Flow k) ≡ t (Flow k))
+          → run (lineBlock (B .m) l) t (Flow q) ≡ lineFlow B q
+      go q (inl e) f k = rw e f
+      go q (inr c) f k = k q (omega arith) ∙ i .2 q c
+
+  pub flow-phase : Phase (tables B) (slacks ∷ capacities ∷ blanks ∷ []) flows (temporaries ∷ slacks ∷ []) (loop (B .m * B .m) (lineBlock (B .m)))
+  unfolding slackAfter
+  flow-phase = record {
+    fills = λ s h l j a b. rw (lt-one b)
+        (loop-invariant Fixed (B .m * B .m) (lineBlock (B .m)) s
+        (holds-part (tables B) (slacks ∷ capacities ∷ blanks ∷ []) lineReads refl s h, λ S c. h slacks refl S 0 c (lit< tt), λ q c. absurd (not-suc-le-zero c)) line-turn .2 l a);
+    frame = writes-loop _ (B .m * B .m) (lineBlock (B .m)) (λ l _. line-frame (B .m) l (l / B .m) (l % B .m));
+  }

@@ -1,0 +1,207 @@
+-- The plan of n bids and m pools: a list of the machine's orders, its length in closed form, and its order at a position (`plan-entry`).
+use mathlib.Core.Path.{_≡_, refl, sym, ap, _∙_}
+use mathlib.Core.Bool.{Bool, true, false, cond}
+use mathlib.Core.List.{List, [], _∷_, _++_, map}
+use Prim.Native.Nat.{ℕ, zero, suc, _+_, _-_, _*_, _%_, _/_, _^_, _≤_, _<_}
+use native.Mathlib.Omega.{arith}
+use native.Mathlib.Nat.{mul-le-mul-right}
+use lib.Dec.{ltb, lit<}
+use lib.ListN.{length, getD, length-append, length-map, List·getD-append, List·getD-map}
+use lib.Seq.{getD-append-add}
+use Rattle.definitions.specs.declared.Order.{Order}
+use Rattle.definitions.specs.declared.Order.the-variants as unit
+use Rattle.definitions.specs.Limits.{bidLimit, poolLimit, cellCount, modulus}
+use Rattle.definitions.specs.Arithmetic.{sumTo}
+use Rattle.definitions.specs.Sheet.{firstResult, firstScratch}
+use Rattle.definitions.specs.Machine.{WellFormed}
+use Rattle.laws.specs.Tests.{Lt?, less, more, lt?}
+use Rattle.plan.specs.Orders.{OrderOn, constant, operate, Operation, adding, subtracting, multiplying, comparing, equating, target, orderOf, renamed, Name, at, family}
+use Rattle.plan.specs.Loops.{loop}
+use Rattle.plan.specs.Names.{amounts, temporaries, familyCount, rowsOf, columnsOf, Blank}
+use Rattle.plan.specs.Layout.{base, address, Named, address-below, base-grows}
+use Rattle.plan.specs.Tree.{Tree, orders, seq, rep, blocks, flat, size, entry, flat-length, flat-entry, length-loop, single-entry, All, all-append, all-loop, all-map, Every, every-flat}
+use Rattle.plan.specs.Work.{work}
+use Rattle.plan.specs.Proper.{Valid, Proper, work-proper, work-fair}
+
+module _ (n m : ℕ) where
+  -- where family t begins
+  unfoldable pub from : ℕ → ℕ
+  from t = base (rowsOf n m) (columnsOf n m) t
+
+  -- the cell of a name
+  abbrev pub cellOf : Name → ℕ
+  cellOf c = address (rowsOf n m) (columnsOf n m) c
+
+  -- how many scratch cells have names
+  unfoldable pub scratchCount : ℕ
+  scratchCount = 6 + 10 * n + 4 * (n * m) + 4 * m + 3 * 2 ^ m
+
+  abbrev pub zeroBlock : ℕ → List (OrderOn ℕ)
+  zeroBlock k = constant (firstScratch n m + k) 0 ∷ []
+
+  -- the work by cell numbers, then 0 in every scratch cell that it may have written
+  abbrev pub numbered : List (OrderOn ℕ)
+  numbered = map (renamed cellOf) (flat (work n m)) ++ loop scratchCount zeroBlock
+
+  unfoldable pub plan : List Order
+  plan = map orderOf numbered
+
+  unfoldable pub planLength : ℕ
+  planLength = n * n * (1 + 2 * m) + n * (29 + 17 * m + 12 * 2 ^ m) + (8 + 11 * m + 2 * (m * m) + 2 ^ m * (7 + 6 * (m * m)))
+
+  -- ---- the layout's places
+
+  pub from-result : from amounts ≡ firstResult n m
+  unfolding from sumTo
+  from-result = omega arith
+
+  pub from-scratch : from temporaries ≡ firstScratch n m
+  unfolding from sumTo
+  from-scratch = omega arith
+
+  pub from-end : from familyCount ≡ firstScratch n m + scratchCount
+  unfolding from sumTo scratchCount
+  from-end = omega arith
+
+  -- ---- the length
+
+  pub work-size : size (work n m) + scratchCount ≡ planLength
+  unfolding scratchCount planLength
+  work-size = omega arith
+
+  zeros-length : length (loop scratchCount zeroBlock) ≡ scratchCount
+  zeros-length = length-loop scratchCount zeroBlock 1 (λ k. refl) ∙ omega arith
+
+  pub plan-length : 0 < m → length plan ≡ planLength
+  unfolding plan
+  plan-length h =
+      length-map numbered orderOf
+      ∙ length-append (map (renamed cellOf) (flat (work n m))) (loop scratchCount zeroBlock)
+      ∙ omega (arith, length-map (flat (work n m)) (renamed cellOf), flat-length (work n m) (work-fair n m h), zeros-length, work-size)
+
+  -- ---- the order at a position
+
+  -- the named order at a position of the work
+  unfoldable pub workAt : ℕ → OrderOn Name
+  workAt x = entry (work n m) x (constant Blank 0)
+
+  unfoldable pub workLength : ℕ
+  workLength = size (work n m)
+
+  unfoldable pub orderAt : ℕ → Order
+  orderAt x = orderOf (cond (ltb x workLength) (renamed cellOf (workAt x)) (constant (firstScratch n m + (x - workLength)) 0))
+
+  pub plan-entry : 0 < m → (x : ℕ) → x < planLength → getD plan x (orderOf (renamed cellOf (constant Blank 0))) ≡ orderAt x
+  unfolding plan orderAt workAt workLength
+  plan-entry h x l =
+      List·getD-map orderOf numbered x (renamed cellOf (constant Blank 0)) ∙ ap orderOf (go (lt? x (size (work n m))))
+    where
+      worked : List (OrderOn ℕ)
+      worked = map (renamed cellOf) (flat (work n m))
+
+      worked-length : length worked ≡ size (work n m)
+      worked-length = length-map (flat (work n m)) (renamed cellOf) ∙ flat-length (work n m) (work-fair n m h)
+
+      go : {t : Bool} → Lt? x (size (work n m)) t
+          → getD numbered x (renamed cellOf (constant Blank 0)) ≡ cond t (renamed cellOf (entry (work n m) x (constant Blank 0))) (constant (firstScratch n m + (x - size (work n m))) 0)
+      go (less c) =
+          List·getD-append worked (loop scratchCount zeroBlock) _ x (omega (arith, worked-length))
+          ∙ List·getD-map (renamed cellOf) (flat (work n m)) x (constant Blank 0)
+          ∙ ap (renamed cellOf) (flat-entry (work n m) (work-fair n m h) x (constant Blank 0) c)
+      go (more c) =
+          let w : x ≡ length worked + (x - size (work n m)) = omega (arith, worked-length) in
+          ap (λ (y : ℕ). getD numbered y (renamed cellOf (constant Blank 0))) w
+          ∙ getD-append-add worked (loop scratchCount zeroBlock) (x - size (work n m)) (renamed cellOf (constant Blank 0))
+          ∙ single-entry scratchCount (λ k. constant (firstScratch n m + k) 0) (x - size (work n m)) (renamed cellOf (constant Blank 0)) (omega (arith, work-size))
+
+  -- ---- every order is one of the machine's, and writes a result or scratch
+
+  -- a cell of the results or of the scratch that has names
+  abbrev pub Writable : ℕ → Type 0
+  Writable c = (firstResult n m ≤ c) × (c < firstScratch n m + scratchCount)
+
+  name-below : (c : Name) → Valid n m c → cellOf c < firstScratch n m + scratchCount
+  unfolding from
+  name-below c h = omega (arith, from-end, address-below (rowsOf n m) (columnsOf n m) familyCount c h)
+
+  name-writable : (c : Name) → Valid n m c → amounts ≤ family c → Writable (cellOf c)
+  unfolding from
+  name-writable (at t i j) h l = (omega (arith, from-result, base-grows (rowsOf n m) (columnsOf n m) amounts t l), name-below (at t i j) h)
+
+  abbrev pub WritesWell : OrderOn ℕ → Type 0
+  WritesWell o = Writable (target o) × WellFormed (orderOf o)
+
+  module _ (room : firstScratch n m + scratchCount ≤ cellCount) where
+    name-cell : (c : Name) → Valid n m c → cellOf c < cellCount
+    name-cell c h = omega (arith, name-below c h)
+
+    proper-writes : (o : OrderOn Name) → Proper n m o → WritesWell (renamed cellOf o)
+    proper-writes (constant d k) h = (name-writable d (h .0) (h .1), (name-cell d (h .0), h .2))
+    proper-writes (operate op d a b) h = (name-writable d (h .0) (h .1), go op)
+      where
+        go : (op : Operation) → WellFormed (orderOf (renamed cellOf (operate op d a b)))
+        go adding = (name-cell d (h .0), name-cell a (h .2), name-cell b (h .3))
+        go subtracting = (name-cell d (h .0), name-cell a (h .2), name-cell b (h .3))
+        go multiplying = (name-cell d (h .0), name-cell a (h .2), name-cell b (h .3))
+        go comparing = (name-cell d (h .0), name-cell a (h .2), name-cell b (h .3))
+        go equating = (name-cell d (h .0), name-cell a (h .2), name-cell b (h .3))
+
+    zero-writes : (k : ℕ) → k < scratchCount → All WritesWell (zeroBlock k)
+    zero-writes k l = (((omega arith, omega arith), (omega arith, omega arith)), tt)
+
+    pub numbered-writes : m < modulus → All WritesWell numbered
+    numbered-writes h =
+        all-append WritesWell (map (renamed cellOf) (flat (work n m))) (loop scratchCount zeroBlock)
+        (all-map (Proper n m) WritesWell (renamed cellOf) proper-writes (flat (work n m)) (every-flat (Proper n m) (work n m) (work-proper n m h)))
+        (all-loop WritesWell scratchCount zeroBlock zero-writes)
+
+-- at the limits every name has a cell of the sheet
+pub names-fit : (n m : ℕ) → n ≤ bidLimit → m ≤ poolLimit → firstScratch n m + scratchCount n m ≤ cellCount
+unfolding scratchCount
+names-fit n zero h k = omega arith
+names-fit n (suc zero) h k = omega arith
+names-fit n (suc (suc zero)) h k = omega arith
+names-fit n (suc (suc (suc zero))) h k = omega arith
+names-fit n (suc (suc (suc (suc zero)))) h k = omega arith
+names-fit n (suc (suc (suc (suc (suc m))))) h k = absurd (omega arith)
+
+-- document 01's limit on the count of orders
+pub plan-bound : (n m : ℕ) → 0 < m → m ≤ poolLimit → planLength n m ≤ n * (100 * n + 40 * (m + 1) ^ 6) + 10000
+unfolding planLength
+plan-bound n zero p k = absurd (omega arith)
+plan-bound n (suc zero) p k = omega arith
+plan-bound n (suc (suc zero)) p k = omega arith
+plan-bound n (suc (suc (suc zero))) p k = omega arith
+plan-bound n (suc (suc (suc (suc zero)))) p k = omega arith
+plan-bound n (suc (suc (suc (suc (suc m))))) p k = absurd (omega arith)
+
+full-plan : planLength 64 4 ≡ 57092
+unfolding planLength
+full-plan = refl
+
+-- the target of one of the machine's orders
+abbrev pub targetOf : Order → ℕ
+targetOf (unit.Constant d k) = d
+targetOf (unit.Sum d a b) = d
+targetOf (unit.Difference d a b) = d
+targetOf (unit.Product d a b) = d
+targetOf (unit.Less d a b) = d
+targetOf (unit.Equal d a b) = d
+
+target-is : (o : OrderOn ℕ) → targetOf (orderOf o) ≡ target o
+target-is (constant d k) = refl
+target-is (operate adding d a b) = refl
+target-is (operate subtracting d a b) = refl
+target-is (operate multiplying d a b) = refl
+target-is (operate comparing d a b) = refl
+target-is (operate equating d a b) = refl
+
+-- an order of the machine that writes a result or scratch
+abbrev pub Permitted : (n m : ℕ) → Order → Type 0
+Permitted n m o = WellFormed o × (firstResult n m ≤ targetOf o)
+
+pub plan-permitted : (n m : ℕ) → n ≤ bidLimit → m ≤ poolLimit → All (Permitted n m) (plan n m)
+unfolding plan
+plan-permitted n m h k =
+    all-map (WritesWell n m) (Permitted n m) orderOf (λ o w. (w .1, rw (target-is o) (w .0 .0))) (numbered n m)
+    (numbered-writes n m (names-fit n m h k) (omega arith))

@@ -1,0 +1,235 @@
+-- The phases that fill the ranks, the used and the accepted amounts.
+use mathlib.Core.Path.{_≡_, refl, sym, ap, _∙_}
+use mathlib.Core.Logic.{_≢_}
+use mathlib.Core.Bool.{Bool, true, false, not, cond}
+use mathlib.Core.List.{List, [], _∷_, _++_}
+use Prim.Native.Nat.{ℕ, zero, suc, _+_, _-_, _*_, _^_, _≤_, _<_, min}
+use native.Mathlib.Nat.{le-refl}
+use native.Mathlib.Omega.{arith}
+use lib.Dec.{ltb, eqb, lit<, lit≤}
+use lib.Arith.{lt-one}
+use borrow.Author.Tests.{ne-eqb}
+use Rattle.definitions.specs.Limits.{modulus, greatestPositive, quantityLimit}
+use Rattle.definitions.specs.Arithmetic.{on, sumTo}
+use Rattle.definitions.specs.Book.{Book, purchase, size}
+use Rattle.definitions.specs.Machine.{plus, minus, times, lessThan}
+use Rattle.definitions.specs.Clearing.{before}
+use Rattle.laws.specs.Sum.{sum-prefix, sum-le}
+use Rattle.laws.specs.Extremes.{minTo}
+use Rattle.laws.specs.AcceptedBook.{Sound}
+use Rattle.plan.specs.Orders.{OrderOn, constant, sum, Name, at, same, run, State}
+use Rattle.plan.specs.Residues.{plus-small, minus-small, times-on, on-times, less-small, min-small}
+use Rattle.plan.specs.Loops.{loop, run-append, loop-invariant, among, writes, writes-append, writes-loop, keep, eqb-same, same-self, loop-own}
+use Rattle.plan.specs.Holds.{Holds, Phase, holds-keep, holds-part, touches, touches-among, fill-column, fill-rows, fill-cells}
+use Rattle.plan.specs.Names.{blanks, sides, sizes, doubles, keys, nexts, weights, subsets, cuts, aheads, lows, reaches, highs, uses, amounts, temporaries, Blank, Temporary, Weight, Subset, Cut, Ahead, Low, Reach, High}
+use Rattle.plan.specs.Subsets.{member, complement, subsetSum, subset-outside}
+use Rattle.plan.specs.Running.{Lowers, lower, lowered, subset-sums}
+use Rattle.plan.specs.Values.{tables, rate, key, weight, cut, ahead, reach, rank, usedAmount, acceptedAmount}
+use Rattle.plan.specs.Blocks.{Block, testAt, testOrder, gain, aheadTurn, aheadStart, aheadBlock, subsetBlocks, costTurn, costLoop, rankBlock, lowBlock, reachBlock, highBlock, useBlock, amountBlock}
+use Rattle.plan.specs.Merit.{keyTest, test-is-before}
+use Rattle.plan.specs.Cuts.{subsets-frame}
+use Rattle.plan.specs.Bounds.{Theory, on-le, sizeTotal, sum-limit, weight-small, ahead-small, reach-small, cost-small, cut-small, rank-small, used-small}
+
+min-mono : (d k : ℕ) (f h : ℕ → ℕ) → ((i : ℕ) → i < k → f i ≤ h i) → minTo d k f ≤ minTo d k h
+unfolding minTo
+min-mono d zero f h e = le-refl d
+min-mono d (suc k) f h e = omega (arith, min-mono d k f h (λ i l. e i (omega arith)), e k (le-refl (suc k)))
+
+accept-small : (t : Bool) (v x : ℕ) → x ≤ v → v ≤ quantityLimit → plus x (times (minus (minus v x) x) (on t 1)) ≡ cond t (v - x) x
+accept-small true v x h k =
+    let y : ℕ = minus (v - x) x in
+    let whole : times y 1 ≡ y = omega arith in
+    rw (minus-small v x (omega arith) h, whole) (omega arith)
+accept-small false v x h k = omega arith
+
+module _ (B : Book) (sound : Sound B) where
+  -- ---- the sizes ahead of bid i, pool by pool
+
+  abbrev aheadReads : List ℕ
+  aheadReads = doubles ∷ keys ∷ nexts ∷ weights ∷ blanks ∷ []
+
+  abbrev Compared : State → Type 0
+  Compared = Holds (tables B) aheadReads
+
+  test-writes : (W : Name → Bool) (i j : ℕ) → W (Temporary 0) ≡ true → writes W (testOrder i j ∷ []) ≡ true
+  test-writes W i j e = go (ltb j i) (ltb i j)
+    where
+      go : (x y : Bool) → writes W (testAt x y i j ∷ []) ≡ true
+      go true y = rw e
+      go false true = rw e
+      go false false = rw e
+
+  test-value : (i j : ℕ) → i < B .n → j < B .n → (t : State) → Compared t → run (testOrder i j ∷ []) t (Temporary 0) ≡ on (before B j i) 1
+  test-value i j a b t h = go (ltb j i) (ltb i j) ∙ ap (λ (x : Bool). on x 1) (test-is-before B sound j i b a)
+    where
+      side-small : (x : Bool) → on x 1 ≤ 1
+      side-small x = on-le x 1 1 (le-refl 1)
+
+      go : (x y : Bool) → run (testAt x y i j ∷ []) t (Temporary 0) ≡ on (keyTest x y B j i) 1
+      go true y =
+          rw (h keys refl j 0 b (lit< tt), h nexts refl i 0 a (lit< tt))
+          (less-small (key B j) (2 * rate B i + 1) (omega (arith, side-small (purchase B j), sound .price-small j b)) (omega (arith, sound .price-small i a)))
+      go false true =
+          rw (h doubles refl j 0 b (lit< tt), h keys refl i 0 a (lit< tt))
+          (less-small (2 * rate B j) (key B i) (omega (arith, sound .price-small j b)) (omega (arith, side-small (purchase B i), sound .price-small i a)))
+      go false false = rw (h blanks refl 0 0 (lit< tt) (lit< tt))
+
+  turn-writes : (W : Name → Bool) (i j : ℕ) → W (Temporary 0) ≡ true → W (Temporary 1) ≡ true → ((p : ℕ) → W (Ahead i p) ≡ true) → writes W (aheadTurn (B .m) i j) ≡ true
+  turn-writes W i j e f g = writes-append W (testOrder i j ∷ []) (loop (B .m) (gain i j)) (test-writes W i j e) (writes-loop W (B .m) (gain i j) (λ p _. rw (f, g p)))
+
+  -- the gains of all pools, from the test's outcome
+  gain-value : (i j p : ℕ) → p < B .m → (t : State) → run (loop (B .m) (gain i j)) t (Ahead i p) ≡ plus (t (Ahead i p)) (times (t (Temporary 0)) (t (Weight j p)))
+  gain-value i j p l t =
+      let own : (run (loop (B .m) (gain i j)) t (Ahead i p) ≡ run (gain i j p) (run (loop p (gain i j)) t) (Ahead i p)) × (run (loop p (gain i j)) t (Ahead i p) ≡ t (Ahead i p))
+      = loop-own (B .m) (gain i j) (Ahead i p) t p l (λ q r ne. rw (eqb-same i, ne-eqb q p ne)) in
+      own .0 ∙ rw (
+        eqb-same i,
+        eqb-same p,
+        own .1,
+        keep (among (aheads ∷ temporaries ∷ [])) (loop p (gain i j)) (Weight j p) t (writes-loop _ p (gain i j) (λ q _. refl)) refl,
+        keep (λ c. not (same (Temporary 0) c)) (loop p (gain i j)) (Temporary 0) t (writes-loop _ p (gain i j) (λ q _. refl)) refl,
+      )
+
+  turn-frame : (i j : ℕ) → writes (among (aheads ∷ temporaries ∷ [])) (aheadTurn (B .m) i j) ≡ true
+  turn-frame i j = turn-writes (among (aheads ∷ temporaries ∷ [])) i j refl refl (λ p. refl)
+
+  abbrev Gained : (i k : ℕ) → State → Type 0
+  Gained i k t = Compared t × ((p : ℕ) → p < B .m → t (Ahead i p) ≡ sumTo k (λ j. on (before B j i) (weight B j p)))
+
+  ahead-turn : (i j : ℕ) (t : State) → i < B .n → j < B .n → Gained i j t → Gained i (suc j) (run (aheadTurn (B .m) i j) t)
+  unfolding sumTo ahead
+  ahead-turn i j t a b g = (
+    holds-keep (tables B) (aheads ∷ temporaries ∷ []) aheadReads refl (aheadTurn (B .m) i j) (turn-frame i j) t (g .0),
+    λ p l.
+        let f : ℕ → ℕ = λ k. on (before B k i) (weight B k p) in
+        gain-value i j p l (run (testOrder i j ∷ []) t)
+        ∙ rw (
+          test-value i j a b t (g .0),
+          keep (among (temporaries ∷ [])) (testOrder i j ∷ []) (Ahead i p) t (test-writes (among (temporaries ∷ [])) i j refl) refl,
+          keep (among (temporaries ∷ [])) (testOrder i j ∷ []) (Weight j p) t (test-writes (among (temporaries ∷ [])) i j refl) refl,
+          g .0 weights refl j p b l,
+          g .1 p l,
+          times-on (before B j i) (weight B j p) (omega (arith, weight-small B sound j p b)),
+        )
+        (plus-small (sumTo j f) (f j) (omega (arith, sum-prefix (suc j) (B .n) f b, ahead-small B sound i p))),
+  )
+
+  ahead-value : (i p : ℕ) (t : State) → i < B .n → p < B .m → Compared t → run (aheadBlock (B .n) (B .m) i) t (Ahead i p) ≡ ahead B i p
+  unfolding sumTo ahead
+  ahead-value i p t a l h =
+      ap (λ (r : State). r (Ahead i p)) (run-append (loop (B .m) (aheadStart i)) (loop (B .n) (aheadTurn (B .m) i)) t)
+      ∙ loop-invariant (Gained i) (B .n) (aheadTurn (B .m) i) (run (loop (B .m) (aheadStart i)) t) (
+        holds-keep (tables B) (aheads ∷ []) aheadReads refl (loop (B .m) (aheadStart i)) (writes-loop _ (B .m) (aheadStart i) (λ q _. refl)) t h,
+        λ q b. loop-own (B .m) (aheadStart i) (Ahead i q) t q b (λ k r ne. rw (eqb-same i, ne-eqb k q ne)) .0 ∙ rw (eqb-same i, eqb-same q),
+      )
+      (λ j r b. ahead-turn i j r a b) .1 p l
+
+  pub ahead-phase : Phase (tables B) aheadReads aheads (temporaries ∷ []) (loop (B .n) (aheadBlock (B .n) (B .m)))
+  ahead-phase = fill-rows (tables B) aheadReads aheads (temporaries ∷ []) refl refl (aheadBlock (B .n) (B .m))
+      (λ i. writes-append (touches aheads i (temporaries ∷ [])) (loop (B .m) (aheadStart i)) _ (writes-loop _ (B .m) (aheadStart i) (λ q _. rw (eqb-same i)))
+      (writes-loop _ (B .n) (aheadTurn (B .m) i) (λ j _. turn-writes (touches aheads i (temporaries ∷ [])) i j refl refl (λ p. rw (eqb-same i)))))
+      ahead-value
+
+  -- ---- the rank of bids with sums x in cells X, in cell i of family u
+
+  rank-frame : (u i : ℕ) (X : ℕ → Name) → ((S : ℕ) → writes (touches u i (temporaries ∷ subsets ∷ [])) (costTurn (B .m) (at u i 0) S) ≡ true) → writes (touches u i (temporaries ∷ subsets ∷ [])) (constant (at u i 0) greatestPositive ∷ []) ≡ true
+      → writes (touches u i (temporaries ∷ subsets ∷ [])) (rankBlock (B .m) X (at u i 0)) ≡ true
+  rank-frame u i X turn start =
+      let W : Name → Bool = touches u i (temporaries ∷ subsets ∷ []) in
+      writes-append W (subsetBlocks (B .m) X) (costLoop (B .m) (at u i 0)) (touches-among u i (subsets ∷ []) (temporaries ∷ subsets ∷ []) refl (subsetBlocks (B .m) X) (subsets-frame (B .m) X))
+      (writes-append W (constant (at u i 0) greatestPositive ∷ []) (loop (2 ^ B .m) (costTurn (B .m) (at u i 0))) start (writes-loop W (2 ^ B .m) (costTurn (B .m) (at u i 0)) (λ S _. turn S)))
+
+  module _ (u i : ℕ) (no-temporary : eqb temporaries u ≡ false) (no-cut : eqb u cuts ≡ false) (no-subset : eqb u subsets ≡ false)
+      (X : ℕ → Name) (clear : (p : ℕ) → among (subsets ∷ []) (X p) ≡ false)
+      (x : ℕ → ℕ) (small : (p : ℕ) → p < B .m → x p ≤ sizeTotal + quantityLimit) where
+    abbrev d : Name
+    d = at u i 0
+
+    abbrev cost : ℕ → ℕ
+    cost S = cut B S + sumTo (B .m) (λ p. on (not (member S p)) (x p))
+
+    abbrev Summed : State → Type 0
+    Summed t = Holds (tables B) (cuts ∷ []) t × ((S : ℕ) → S < 2 ^ B .m → t (Subset S) ≡ subsetSum (B .m) x S)
+
+    -- orders that write d and temporaries keep what is summed
+    summed-keep : (l : Block) → writes (among (temporaries ∷ u ∷ [])) l ≡ true → (t : State) → Summed t → Summed (run l t)
+    summed-keep l w t g = (
+      holds-keep (tables B) (temporaries ∷ u ∷ []) (cuts ∷ []) (rw no-cut) l w t (g .0),
+      λ S a. keep (among (temporaries ∷ u ∷ [])) l (Subset S) t w (rw no-subset) ∙ g .1 S a,
+    )
+
+    cost-lowers : (S : ℕ) → S < 2 ^ B .m → Lowers Summed d (costTurn (B .m) d S) (cost S)
+    cost-lowers S a t g c = (
+      summed-keep (costTurn (B .m) d S) (rw (no-temporary, eqb-same u)) t g,
+      rw (
+        no-temporary,
+        eqb-same u,
+        eqb-same i,
+        g .0 cuts refl S 0 a (lit< tt),
+        g .1 (complement (B .m) S) (omega arith),
+        subset-outside (B .m) x S a,
+        plus-small (cut B S) (sumTo (B .m) (λ p. on (not (member S p)) (x p))) (omega (arith, cost-small B sound x small S)),
+      )
+          (min-small (t d) (cost S) c (cost-small B sound x small S)),
+    )
+
+    rank-value : (s : State) → Holds (tables B) (cuts ∷ []) s → ((p : ℕ) → p < B .m → s (X p) ≡ x p) → run (rankBlock (B .m) X d) s d ≡ rank B x
+    unfolding rank
+    rank-value s h e =
+        let r : State = run (subsetBlocks (B .m) X) s in
+        let g : Summed r = (
+          holds-keep (tables B) (subsets ∷ []) (cuts ∷ []) refl (subsetBlocks (B .m) X) (subsets-frame (B .m) X) s h,
+          subset-sums (B .m) X clear x (omega (arith, sum-limit (B .m) 4 x (sizeTotal + quantityLimit) (sound .pools) small)) s e,
+        ) in
+        let t : State = run (constant d greatestPositive ∷ []) r in
+        let f : t d ≡ greatestPositive = rw (eqb-same u, eqb-same i) in
+        ap (λ (v : State). v d) (run-append (subsetBlocks (B .m) X) (costLoop (B .m) d) s)
+        ∙ lower Summed d (2 ^ B .m) (costTurn (B .m) d) cost cost-lowers t (summed-keep (constant d greatestPositive ∷ []) (rw (no-temporary, eqb-same u)) r g) (omega arith) .1
+        ∙ ap (λ (v : ℕ). minTo v (2 ^ B .m) cost) f
+
+  pub low-phase : Phase (tables B) (aheads ∷ cuts ∷ []) lows (temporaries ∷ subsets ∷ []) (loop (B .n) (lowBlock (B .m)))
+  low-phase = fill-column (tables B) (aheads ∷ cuts ∷ []) lows (temporaries ∷ subsets ∷ []) refl refl refl (lowBlock (B .m))
+      (λ i. rank-frame lows i (Ahead i) (λ S. rw (eqb-same i)) (rw (eqb-same i)))
+      (λ i t l h.
+      rank-value lows i refl refl refl (Ahead i) (λ p. refl) (ahead B i) (λ p _. omega (arith, ahead-small B sound i p)) t
+      (holds-part (tables B) (aheads ∷ cuts ∷ []) (cuts ∷ []) refl t h) (λ p b. h aheads refl i p l b))
+
+  pub reach-phase : Phase (tables B) (aheads ∷ weights ∷ []) reaches [] (loop (B .n) (λ i. loop (B .m) (reachBlock i)))
+  unfolding reach
+  reach-phase = fill-cells (tables B) (aheads ∷ weights ∷ []) reaches [] refl refl reachBlock (λ i p. rw (eqb-same i, eqb-same p))
+      (λ i p t l b h. rw (eqb-same i, eqb-same p, h aheads refl i p l b, h weights refl i p l b)
+      (plus-small (ahead B i p) (weight B i p) (omega (arith, ahead-small B sound i p, weight-small B sound i p l))))
+
+  pub high-phase : Phase (tables B) (reaches ∷ cuts ∷ []) highs (temporaries ∷ subsets ∷ []) (loop (B .n) (highBlock (B .m)))
+  high-phase = fill-column (tables B) (reaches ∷ cuts ∷ []) highs (temporaries ∷ subsets ∷ []) refl refl refl (highBlock (B .m))
+      (λ i. rank-frame highs i (Reach i) (λ S. rw (eqb-same i)) (rw (eqb-same i)))
+      (λ i t l h.
+      rank-value highs i refl refl refl (Reach i) (λ p. refl) (reach B i) (λ p _. reach-small B sound i p l) t
+      (holds-part (tables B) (reaches ∷ cuts ∷ []) (cuts ∷ []) refl t h) (λ p b. h reaches refl i p l b))
+
+  -- ---- the amounts
+
+  -- more bids, no smaller rank
+  rank-grows : (x y : ℕ → ℕ) → ((p : ℕ) → x p ≤ y p) → rank B x ≤ rank B y
+  unfolding rank
+  rank-grows x y h = min-mono greatestPositive (2 ^ B .m) _ _ (λ S _. omega (arith, sum-le (B .m) (λ p. on (not (member S p)) (x p)) (λ p. on (not (member S p)) (y p)) (λ p _. go (not (member S p)) p)))
+    where
+      go : (t : Bool) (p : ℕ) → on t (x p) ≤ on t (y p)
+      go true p = h p
+      go false p = le-refl 0
+
+  ahead-reach : (i p : ℕ) → ahead B i p ≤ reach B i p
+  unfolding reach
+  ahead-reach i p = omega arith
+
+  pub use-phase : Phase (tables B) (lows ∷ highs ∷ []) uses [] (loop (B .n) useBlock)
+  unfolding usedAmount
+  use-phase = fill-column (tables B) (lows ∷ highs ∷ []) uses [] refl refl refl useBlock (λ i. rw (eqb-same i))
+      (λ i t l h. rw (eqb-same i, h lows refl i 0 l (lit< tt), h highs refl i 0 l (lit< tt))
+      (minus-small (rank B (reach B i)) (rank B (ahead B i)) (omega (arith, rank-small B sound (reach B i))) (rank-grows (ahead B i) (reach B i) (ahead-reach i))))
+
+  pub amount-phase : Theory B → Phase (tables B) (sides ∷ sizes ∷ uses ∷ []) amounts (temporaries ∷ []) (loop (B .n) amountBlock)
+  unfolding acceptedAmount
+  amount-phase theory = fill-column (tables B) (sides ∷ sizes ∷ uses ∷ []) amounts (temporaries ∷ []) refl refl refl amountBlock (λ i. rw (eqb-same i))
+      (λ i t l h. rw (eqb-same i, h sizes refl i 0 l (lit< tt), h uses refl i 0 l (lit< tt), h sides refl i 0 l (lit< tt))
+      (accept-small (purchase B i) (size B i) (usedAmount B i) (theory .used-size i l) (sound .size-small i l)))

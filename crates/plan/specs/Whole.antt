@@ -1,0 +1,65 @@
+-- The whole work on names: from the inputs to the results (`work-done`).
+use mathlib.Core.Path.{_≡_, refl}
+use mathlib.Core.Bool.{true}
+use mathlib.Core.List.{List, [], _∷_, _++_}
+use Prim.Native.Nat.{ℕ, _<_}
+use Rattle.definitions.specs.Book.{Book}
+use Rattle.laws.specs.AcceptedBook.{Sound}
+use Rattle.plan.specs.Orders.{OrderOn, Name, State, run}
+use Rattle.plan.specs.Holds.{Holds, Step, then, phase-step, step-part}
+use Rattle.plan.specs.Names.{bids, capacities, amounts, flows, prices, blanks}
+use Rattle.plan.specs.Values.{tables}
+use Rattle.plan.specs.Bounds.{Theory}
+use Rattle.plan.specs.Bids.{unit-phase, shift-phase, pool-number-phase, side-phase, size-phase, rate-phase, double-phase, key-phase, next-phase, place-phase, weight-phase}
+use Rattle.plan.specs.Cuts.{demand-phase, cut-phase}
+use Rattle.plan.specs.Ranks.{ahead-phase, low-phase, reach-phase, high-phase, use-phase, amount-phase}
+use Rattle.plan.specs.Lines.{placement-phase, slack-phase, flow-phase}
+use Rattle.plan.specs.Prices.{offer-phase, peak-phase, price-phase}
+use Rattle.plan.specs.Tree.{flat}
+use Rattle.plan.specs.Work.{bidTree, cutsTree, rankTrees, flowTree, priceTree, work}
+
+-- what a sealed sheet holds
+abbrev pub inputs : List ℕ
+inputs = bids ∷ capacities ∷ blanks ∷ []
+
+-- what the work leaves on it
+abbrev pub outputs : List ℕ
+outputs = bids ∷ capacities ∷ amounts ∷ flows ∷ prices ∷ []
+
+module _ (B : Book) (sound : Sound B) (theory : Theory B) where
+  all-steps : Step (tables B) inputs outputs (flat (work (B .n) (B .m)))
+  all-steps =
+      step-part (tables B) outputs
+      (then (tables B)
+      (then (tables B) (phase-step (tables B) _ (unit-phase B sound) refl)
+      (then (tables B) (phase-step (tables B) _ (shift-phase B sound) refl)
+      (then (tables B) (phase-step (tables B) _ (pool-number-phase B sound) refl)
+      (then (tables B) (phase-step (tables B) _ (side-phase B sound) refl)
+      (then (tables B) (phase-step (tables B) _ (size-phase B sound) refl)
+      (then (tables B) (phase-step (tables B) _ (rate-phase B sound) refl)
+      (then (tables B) (phase-step (tables B) _ (double-phase B sound) refl)
+      (then (tables B) (phase-step (tables B) _ (key-phase B sound) refl)
+      (phase-step (tables B) _ (next-phase B sound) refl)))))))))
+      (then (tables B)
+      (then (tables B) (phase-step (tables B) _ (place-phase B sound) refl)
+      (then (tables B) (phase-step (tables B) _ (weight-phase B sound) refl)
+      (then (tables B) (phase-step (tables B) _ (demand-phase B sound) refl)
+      (phase-step (tables B) _ (cut-phase B sound) refl))))
+      (then (tables B)
+      (then (tables B) (phase-step (tables B) _ (ahead-phase B sound) refl)
+      (then (tables B) (phase-step (tables B) _ (low-phase B sound) refl)
+      (then (tables B) (phase-step (tables B) _ (reach-phase B sound) refl)
+      (then (tables B) (phase-step (tables B) _ (high-phase B sound) refl)
+      (then (tables B) (phase-step (tables B) _ (use-phase B sound) refl)
+      (phase-step (tables B) _ (amount-phase B sound theory) refl))))))
+      (then (tables B)
+      (then (tables B) (phase-step (tables B) _ (placement-phase B sound theory) refl)
+      (then (tables B) (phase-step (tables B) _ (slack-phase B sound theory) refl)
+      (phase-step (tables B) _ (flow-phase B sound theory) refl)))
+      (then (tables B) (phase-step (tables B) _ (offer-phase B sound theory) refl)
+      (then (tables B) (phase-step (tables B) _ (peak-phase B sound) refl)
+      (phase-step (tables B) _ (price-phase B sound) refl)))))))
+      refl
+
+  pub work-done : (s : State) → Holds (tables B) inputs s → Holds (tables B) outputs (run (flat (work (B .n) (B .m))) s)
+  work-done = all-steps .done

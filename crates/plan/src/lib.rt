@@ -1,0 +1,1 @@
+// The plan: the list of orders that clears every book of given counts.

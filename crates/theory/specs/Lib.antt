@@ -1,0 +1,24 @@
+-- The best clearing exists, is unique, has the greatest welfare, and is given by cuts.
+pub mod Choices
+pub mod Integers
+pub mod StrictOrder
+pub mod Subsets
+pub mod Network
+pub mod Rank
+pub mod Balance
+pub mod Flows
+pub mod Greatest
+pub mod Welfare
+pub mod MeritOrder
+pub mod Grid
+pub mod BookNetwork
+pub mod FlowOrder
+pub mod CutClearing
+pub mod ClosedForms
+pub mod PoolPrice
+pub mod ClosedBest
+pub mod Reachable
+pub mod BestClearing
+pub mod Dearer
+pub mod Reach
+pub mod Bounds
