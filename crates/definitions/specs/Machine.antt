@@ -63,3 +63,8 @@ WellFormed (Difference d a b) = ThreeCells d a b
 WellFormed (Product d a b) = ThreeCells d a b
 WellFormed (Less d a b) = ThreeCells d a b
 WellFormed (Equal d a b) = ThreeCells d a b
+
+-- every order of a list is one of the machine's
+abbrev pub AllWellFormed : List Order → Type 0
+AllWellFormed [] = Unit {0}
+AllWellFormed (o ∷ os) = WellFormed o × AllWellFormed os

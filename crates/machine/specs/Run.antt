@@ -14,7 +14,7 @@ use Rattle.definitions.specs.Limits.{cellCount, modulus}
 use Rattle.definitions.specs.Arithmetic.{reading}
 use Rattle.definitions.specs.declared.Order.{Order}
 use Rattle.definitions.specs.declared.Order.the-variants.{Constant, Sum, Difference, Product, Less, Equal}
-use Rattle.definitions.specs.Machine.{cell, IsSheet, WellFormed, stepOf, runOf}
+use Rattle.definitions.specs.Machine.{cell, IsSheet, WellFormed, AllWellFormed, stepOf, runOf}
 use Rattle.machine.specs.declared.Parts.{Parts}
 use Rattle.machine.specs.Parts.{resultOf, partsOf, one-store}
 
@@ -68,34 +68,12 @@ step-length s o = rw (one-store s o) (length-set s _ _)
 
 -- ---- A list of orders
 
--- every order of a list is well formed
-unfoldable pub WellFormedOrders : List Order → Type 0
-WellFormedOrders [] = Unit {0}
-WellFormedOrders (o ∷ os) = WellFormed o × WellFormedOrders os
-
-pub none-well-formed : WellFormedOrders []
-unfolding WellFormedOrders
-none-well-formed = tt
-
-pub more-well-formed : (o : Order) (os : List Order) → WellFormed o → WellFormedOrders os → WellFormedOrders (o ∷ os)
-unfolding WellFormedOrders
-more-well-formed o os h k = (h, k)
-
-pub first-well-formed : (o : Order) (os : List Order) → WellFormedOrders (o ∷ os) → WellFormed o
-unfolding WellFormedOrders
-first-well-formed o os h = h .0
-
-pub rest-well-formed : (o : Order) (os : List Order) → WellFormedOrders (o ∷ os) → WellFormedOrders os
-unfolding WellFormedOrders
-rest-well-formed o os h = h .1
-
-pub append-well-formed : (xs ys : List Order) → WellFormedOrders xs → WellFormedOrders ys → WellFormedOrders (xs ++ ys)
-unfolding WellFormedOrders
+pub append-well-formed : (xs ys : List Order) → AllWellFormed xs → AllWellFormed ys → AllWellFormed (xs ++ ys)
 append-well-formed [] ys h k = k
 append-well-formed (x ∷ xs) ys h k = (h .0, append-well-formed xs ys (h .1) k)
 
-pub run-sheet : (os : List Order) (s : List ℕ) → IsSheet s → WellFormedOrders os → IsSheet (runOf os s)
-unfolding runOf WellFormedOrders
+pub run-sheet : (os : List Order) (s : List ℕ) → IsSheet s → AllWellFormed os → IsSheet (runOf os s)
+unfolding runOf
 run-sheet [] s h w = h
 run-sheet (o ∷ os) s h w = run-sheet os (stepOf s o) (step-sheet s o h (w .0)) (w .1)
 

@@ -1,0 +1,2 @@
+-- What clearing gives, and demand 3.
+pub mod Demand3

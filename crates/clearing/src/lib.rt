@@ -1,0 +1,1 @@
+// Clearing: seals a book, runs the plan, gives the count of orders and the welfare.

@@ -1,0 +1,52 @@
+-- Runs of stores one after another, and an order's bytes by its numbers.
+use Prim.Native.Nat.{ℕ, suc, _+_, _≤_}
+use mathlib.Core.Path.{_≡_, sym, ap, _∙_}
+use mathlib.Core.Bool.{cond}
+use mathlib.Core.List.{List, [], _∷_, _++_, append-assoc}
+use native.Mathlib.Omega.{arith}
+use native.Mathlib.Nat.{add-zero, suc-add, add-suc}
+use lib.Dec.{eqb}
+use lib.ListN.{length, set, length-append}
+use lib.Seq.{sets}
+use Rattle.definitions.specs.declared.Order.{Order}
+use Rattle.definitions.specs.declared.Order.the-variants.{Constant, Sum, Difference, Product, Less, Equal}
+use Rattle.definitions.specs.Bytes.{numberBytes, orderBytes}
+use Rattle.codec.specs.declared.OrderNumbers.{OrderNumbers}
+use Rattle.codec.specs.Written.{numbersOf}
+
+sets-append : (out : List ℕ) (at : ℕ) (xs ys : List ℕ) → sets out at (xs ++ ys) ≡ sets (sets out at xs) (at + length xs) ys
+sets-append out at [] ys = ap (λ (n : ℕ). sets out n ys) (sym (add-zero at))
+sets-append out at (x ∷ xs) ys = sets-append (set out at x) (suc at) xs ys ∙ ap (λ (n : ℕ). sets (sets (set out at x) (suc at) xs) n ys) (suc-add at (length xs) ∙ sym (add-suc at (length xs)))
+
+-- xs written at an offset, and ys behind them, are xs ++ ys written at that offset
+pub both : (out out₁ out₂ : List ℕ) (at next last : ℕ) (xs ys : List ℕ)
+    → next ≡ at + length xs → out₁ ≡ sets out at xs → last ≡ next + length ys → out₂ ≡ sets out₁ next ys
+    → (last ≡ at + length (xs ++ ys)) × (out₂ ≡ sets out at (xs ++ ys))
+both out out₁ out₂ at next last xs ys e₁ q₁ e₂ q₂ = (
+  omega (arith, length-append xs ys),
+  q₂ ∙ ap (λ (l : List ℕ). sets l next ys) q₁ ∙ ap (λ (k : ℕ). sets (sets out at xs) k ys) e₁ ∙ sym (sets-append out at xs ys),
+)
+
+-- the first run's room, and the second's
+pub first-room : (at : ℕ) (xs ys out : List ℕ) → at + length (xs ++ ys) ≤ length out → at + length xs ≤ length out
+first-room at xs ys out h = omega (arith, length-append xs ys)
+
+pub second-room : (at next : ℕ) (xs ys out out₁ : List ℕ) → at + length (xs ++ ys) ≤ length out → next ≡ at + length xs → length out₁ ≡ length out → next + length ys ≤ length out₁
+second-room at next xs ys out out₁ h e q = omega (arith, length-append xs ys)
+
+-- ---- an order by its numbers
+
+abbrev pub headBytes : OrderNumbers → List ℕ
+headBytes n = numberBytes (n .kind) ++ numberBytes (n .d)
+
+abbrev pub numbersBytes : OrderNumbers → List ℕ
+numbersBytes n = headBytes n ++ cond (eqb (n .kind) 0) (numberBytes (n .first)) (numberBytes (n .first) ++ numberBytes (n .second))
+
+pub bytes-numbers : (o : Order) → orderBytes o ≡ numbersBytes (numbersOf o)
+unfolding orderBytes
+bytes-numbers (Constant d k) = sym (append-assoc (numberBytes 0) (numberBytes d) (numberBytes k))
+bytes-numbers (Sum d a b) = sym (append-assoc (numberBytes 1) (numberBytes d) (numberBytes a ++ numberBytes b))
+bytes-numbers (Difference d a b) = sym (append-assoc (numberBytes 2) (numberBytes d) (numberBytes a ++ numberBytes b))
+bytes-numbers (Product d a b) = sym (append-assoc (numberBytes 3) (numberBytes d) (numberBytes a ++ numberBytes b))
+bytes-numbers (Less d a b) = sym (append-assoc (numberBytes 4) (numberBytes d) (numberBytes a ++ numberBytes b))
+bytes-numbers (Equal d a b) = sym (append-assoc (numberBytes 5) (numberBytes d) (numberBytes a ++ numberBytes b))

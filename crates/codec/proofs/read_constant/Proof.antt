@@ -1,0 +1,30 @@
+-- `codec::read_constant` meets its contract: the limit of a constant.
+use mathlib.Core.Path.{ap, _∙_}
+use Rattle.definitions.specs.Answers.{refuse}
+use Rattle.definitions.specs.Bytes.{numberAt, constantAt}
+use Rattle.codec.specs.Answer.{limitedAnswer}
+use Rattle.codec.proofs.Steps.{limited-below}
+use borrow.Author.Needs.{needs}
+use Rattle.codec.proofs.read_constant.Statement.{statement}
+use Rattle.codec.proofs.read_constant.Tie as tie
+
+read-number-requires : tie.Need-read-number-requires
+read-number-requires c κs = search needs
+
+cast-limited : tie.Need-cast-limited
+cast-limited c = search needs
+
+limited-requires : tie.Need-limited-requires
+limited-requires c κs = search needs
+
+returns : tie.Need-returns
+unfolding constantAt
+returns c =
+    let a = c .before .before .before .args in
+    c .limited .ensures
+    ∙ ap (limitedAnswer 2147483647 (refuse 12 (a .start))) (c .before .read-number .ensures)
+    ∙ limited-below (a .start) 2147483647 12 (numberAt (a .bytes .now) (a .at))
+
+pub read-constant-spec : {M : Type 1} → statement M
+read-constant-spec =
+    tie.close (tie.spec read-number-requires cast-limited limited-requires returns)

@@ -1,0 +1,50 @@
+-- `codec::read_last` meets its contract: the second cell is refused, or the order is whole.
+use Prim.Native.Nat.{ℕ}
+use mathlib.Core.Path.{ap}
+use Rattle.definitions.specs.declared.Order.{Order}
+use Rattle.definitions.specs.Bytes.{Read, found, cellAt, cellsOrder, lastAt}
+use Rattle.codec.specs.Answer.{given}
+use Rattle.codec.proofs.Steps.{refused-then, found-then}
+use borrow.Author.Needs.{needs}
+use Rattle.codec.proofs.read_last.Statement.{statement}
+use Rattle.codec.proofs.read_last.Tie as tie
+
+-- what follows the cell
+abbrev whole : (kind d a : ℕ) → ℕ → ℕ → Read Order
+whole kind d a b next = found (cellsOrder kind d a b) next
+
+read-cell-requires : tie.Need-read-cell-requires
+read-cell-requires c κs = search needs
+
+enum-known-verdict : tie.Need-enum-known-verdict
+enum-known-verdict c = search needs
+
+enum-known-b : tie.Need-enum-known-b
+enum-known-b c = search needs
+
+cells-order-requires : tie.Need-cells-order-requires
+cells-order-requires c κs = search needs
+
+returns : tie.Need-returns
+unfolding lastAt
+returns c =
+    let a = c .before .before .before .before .before .args in
+    refused-then (a .start) (cellAt (a .bytes .now) (a .at)) (whole (a .kind) (a .d) (a .a)) (c .before .verdict .given .1) (c .before .before .before .read-cell .ensures)
+
+returns-2 : tie.Need-returns-2
+unfolding lastAt
+returns-2 c =
+    let a = c .before .before .before .before .before .before .args in
+    found-then (a .start) (cellAt (a .bytes .now) (a .at)) (whole (a .kind) (a .d) (a .a)) (c .before .before .b .given .1) (c .before .before .before .before .read-cell .ensures)
+    (ap (λ (o : Order). given o (c .before .before .b .given .0 .1 .0)) (c .cells-order .ensures))
+
+pub read-last-spec : {M : Type 1} → statement M
+read-last-spec =
+    tie.close
+    (tie.spec
+    read-cell-requires
+    enum-known-verdict
+    enum-known-b
+    cells-order-requires
+    returns
+    returns-2)

@@ -1,0 +1,178 @@
+-- A number's groups of seven bits, over the number of groups: what is written is read (read-written), and only the shortest form is read (only-shortest).
+use Prim.Native.Nat.{ℕ, zero, suc, _+_, _*_, _/_, _%_, _<_, _≤_}
+use mathlib.Core.Path.{_≡_, refl, ap, ap₂, _∙_}
+use mathlib.Core.Bool.{Bool, true, false, cond, true≢false}
+use mathlib.Core.List.{List, [], _∷_, _++_}
+use native.Mathlib.Omega.{arith}
+use native.Mathlib.Numerals.{add-one}
+use lib.Dec.{ltb}
+use lib.ListN.{length, drop, getD}
+use borrow.Author.Tests.{lt-ltb, le-ltb, ltb-true, ltb-false}
+use Rattle.definitions.specs.Bytes.{groups, Number, short, bad, number, lastGroup, moreGroups, readGroups}
+use Rattle.laws.specs.Tests.{Lt?, less, more, lt?}
+
+-- each is a byte
+abbrev pub Bytes : List ℕ → Type 0
+Bytes xs = (i : ℕ) → getD xs i 0 < 256
+
+-- numbers of at most g groups are those below it
+unfoldable pub groupsLimit : (g : ℕ) → ℕ
+groupsLimit zero = 1
+groupsLimit (suc g) = 128 * groupsLimit g
+
+pub limit-positive : (g : ℕ) → 0 < groupsLimit g
+unfolding groupsLimit
+limit-positive zero = omega arith
+limit-positive (suc g) = omega (arith, limit-positive g)
+
+-- ---- how many bytes a number has, and that they are bytes
+
+pub at-most : (g v : ℕ) → length (groups g v) ≤ g
+unfolding groups
+at-most zero v = omega arith
+at-most (suc g) v = go (ltb v 128) (at-most g (v / 128))
+  where
+    go : (t : Bool) → length (groups g (v / 128)) ≤ g → length (cond t (v ∷ []) ((v % 128 + 128) ∷ groups g (v / 128))) ≤ suc g
+    go true h = omega arith
+    go false h = omega arith
+
+pub at-least-one : (g v : ℕ) → 1 ≤ length (groups (suc g) v)
+unfolding groups
+at-least-one g v = go (ltb v 128)
+  where
+    go : (t : Bool) → 1 ≤ length (cond t (v ∷ []) ((v % 128 + 128) ∷ groups g (v / 128)))
+    go true = omega arith
+    go false = omega arith
+
+-- a number below the limit of k + 1 groups has no more of them
+pub at-most-within : (k g v : ℕ) → v < groupsLimit (suc k) → length (groups g v) ≤ suc k
+unfolding groups groupsLimit
+at-most-within k zero v h = omega arith
+at-most-within zero (suc g) v h = simp (lt-ltb v 128 (omega arith)) (omega arith)
+at-most-within (suc k) (suc g) v h = go (ltb v 128) (at-most-within k g (v / 128) (omega arith))
+  where
+    go : (t : Bool) → length (groups g (v / 128)) ≤ suc k → length (cond t (v ∷ []) ((v % 128 + 128) ∷ groups g (v / 128))) ≤ suc (suc k)
+    go true i = omega arith
+    go false i = omega arith
+
+pub groups-bytes : (g v : ℕ) → Bytes (groups g v)
+unfolding groups
+groups-bytes zero v i = omega arith
+groups-bytes (suc g) v i = go (lt? v 128) (groups-bytes g (v / 128)) i
+  where
+    go : {t : Bool} → Lt? v 128 t → Bytes (groups g (v / 128)) → Bytes (cond t (v ∷ []) ((v % 128 + 128) ∷ groups g (v / 128)))
+    go (less h) ih zero = omega arith
+    go (less h) ih (suc i) = omega arith
+    go (more h) ih zero = omega arith
+    go (more h) ih (suc i) = ih i
+
+-- ---- what is written is read
+
+module _ (g : ℕ) (first : Bool) (v : ℕ) (rest : List ℕ) where
+  one-group : lastGroup first v ≡ number v 1 → (128 ≤ v → readGroups g false (groups g (v / 128) ++ rest) ≡ number (v / 128) (length (groups g (v / 128)))) → readGroups (suc g) first (groups (suc g) v ++ rest) ≡ number v (length (groups (suc g) v))
+  unfolding readGroups groups
+  one-group l later = go (ltb v 128) refl
+    where
+      go : (t : Bool) → ltb v 128 ≡ t → readGroups (suc g) first (cond t (v ∷ []) ((v % 128 + 128) ∷ groups g (v / 128)) ++ rest) ≡ number v (length (cond t (v ∷ []) ((v % 128 + 128) ∷ groups g (v / 128))))
+      go true q = simp q l
+      go false q =
+          let h : 128 ≤ v = ltb-false _ _ q in
+          let high : ltb (v % 128 + 128) 128 ≡ false = le-ltb (v % 128 + 128) 128 (omega arith) in
+          simp high (
+          ap (moreGroups (v % 128 + 128)) (later h)
+          ∙ ap₂ number (let p : (v % 128 + 128) % 128 + 128 * (v / 128) ≡ v = omega arith in p) (add-one (length (groups g (v / 128))))
+          )
+
+-- the groups after the first, which are not 0
+later-read-written : (g v : ℕ) (rest : List ℕ) → v < groupsLimit g → 0 < v → readGroups g false (groups g v ++ rest) ≡ number v (length (groups g v))
+unfolding groupsLimit
+later-read-written zero v rest h k = absurd (omega arith)
+later-read-written (suc g) v rest h k = one-group g false v rest (simp (lt-ltb 0 v k)) (λ b. later-read-written g (v / 128) rest (omega arith) (omega arith))
+
+pub read-written : (g v : ℕ) (rest : List ℕ) → v < groupsLimit (suc g) → readGroups (suc g) true (groups (suc g) v ++ rest) ≡ number v (length (groups (suc g) v))
+unfolding groupsLimit
+read-written g v rest h = one-group g true v rest refl (λ b. later-read-written g (v / 128) rest (omega arith) (omega arith))
+
+-- ---- only the shortest form is read
+
+-- what is known of a number v that was read in n bytes at the head of xs
+pub record Shortest (g : ℕ) (first : Bool) (xs : List ℕ) (v n : ℕ) : Type 0 where
+  pub value : v < groupsLimit g
+  pub size : n ≤ g
+  pub some : 0 < n
+  pub inside : n ≤ length xs
+  pub positive : first ≡ false → 0 < v
+  pub form : Bytes xs → xs ≡ groups g v ++ drop n xs
+
+bad-number {ℓ} : {X : Type ℓ} {v n : ℕ} → bad ≡ number v n → X
+bad-number e = absurd (let z : _≡_ {A = ℕ} 0 1 = cc in omega arith)
+
+short-number {ℓ} : {X : Type ℓ} {v n : ℕ} → short ≡ number v n → X
+short-number e = absurd (let z : _≡_ {A = ℕ} 0 1 = cc in omega arith)
+
+last-form : (g x : ℕ) (xs : List ℕ) → x < 128 → x ∷ xs ≡ groups (suc g) x ++ drop 1 (x ∷ xs)
+unfolding groups
+last-form g x xs h = simp (lt-ltb x 128 h)
+
+-- a group before the others is the number's lowest seven bits
+more-form : (g x w : ℕ) → 128 ≤ x → x < 256 → 0 < w → groups (suc g) (x % 128 + 128 * w) ≡ x ∷ groups g w
+unfolding groups
+more-form g x w h k p =
+    let q : ltb (x % 128 + 128 * w) 128 ≡ false = le-ltb (x % 128 + 128 * w) 128 (omega arith) in
+    let a : (x % 128 + 128 * w) % 128 + 128 ≡ x = omega arith in
+    let b : (x % 128 + 128 * w) / 128 ≡ w = omega arith in
+    simp q (ap₂ (λ (y : ℕ) (z : ℕ). y ∷ groups g z) a b)
+
+module _ (g : ℕ) (first : Bool) (x : ℕ) (xs : List ℕ) (v n : ℕ) where
+  last-known : x < 128 → (first ≡ false → 0 < x) → number x 1 ≡ number v n → Shortest (suc g) first (x ∷ xs) v n
+  unfolding groupsLimit
+  last-known h k e =
+      let p : x ≡ v = cc in
+      let q : 1 ≡ n = cc in
+      record {
+        value = omega (arith, limit-positive g);
+        size = omega arith;
+        some = omega arith;
+        inside = omega arith;
+        positive = λ z. let o : 0 < x = k z in omega arith;
+        form = λ b. rw (← p, ← q) (last-form g x xs h);
+      }
+
+  more-known : (r : Number) → 128 ≤ x → ((w k : ℕ) → r ≡ number w k → Shortest g false xs w k) → moreGroups x r ≡ number v n → Shortest (suc g) first (x ∷ xs) v n
+  unfolding groupsLimit
+  more-known short h known e = short-number e
+  more-known bad h known e = bad-number e
+  more-known (number w k) h known e =
+      let p : x % 128 + 128 * w ≡ v = cc in
+      let q : k + 1 ≡ n = cc in
+      let i = known w k refl in
+      let a : w < groupsLimit g = i .value in
+      let b : k ≤ g = i .size in
+      let d : 0 < w = i .positive refl in
+      let j : k ≤ length xs = i .inside in
+      record {
+        value = omega arith;
+        size = omega arith;
+        some = omega arith;
+        inside = omega arith;
+        positive = λ z. omega arith;
+        form = λ o. rw (← p, ← q, add-one k, more-form g x w h (o 0) d) (ap (λ (l : List ℕ). x ∷ l) (i .form (λ j. o (suc j))));
+      }
+
+last-shortest : (g : ℕ) (first : Bool) (x : ℕ) (xs : List ℕ) (v n : ℕ) → x < 128 → lastGroup first x ≡ number v n → Shortest (suc g) first (x ∷ xs) v n
+last-shortest g true x xs v n h e = last-known g true x xs v n h (λ z. absurd (true≢false z)) e
+last-shortest g false x xs v n h e = go (ltb 0 x) refl e
+  where
+    go : (t : Bool) → ltb 0 x ≡ t → cond t (number x 1) bad ≡ number v n → Shortest (suc g) false (x ∷ xs) v n
+    go true q e = last-known g false x xs v n h (λ _. ltb-true 0 x q) e
+    go false q e = bad-number e
+
+pub only-shortest : (g : ℕ) (first : Bool) (xs : List ℕ) (v n : ℕ) → readGroups g first xs ≡ number v n → Shortest g first xs v n
+unfolding readGroups
+only-shortest zero first xs v n e = bad-number e
+only-shortest (suc g) first [] v n e = short-number e
+only-shortest (suc g) first (x ∷ xs) v n e = go (ltb x 128) refl (only-shortest g false xs) e
+  where
+    go : (t : Bool) → ltb x 128 ≡ t → ((w k : ℕ) → readGroups g false xs ≡ number w k → Shortest g false xs w k) → cond t (lastGroup first x) (moreGroups x (readGroups g false xs)) ≡ number v n → Shortest (suc g) first (x ∷ xs) v n
+    go true q later e = last-shortest g first x xs v n (ltb-true _ _ q) e
+    go false q later e = more-known g first x xs v n (readGroups g false xs) (ltb-false _ _ q) later e

@@ -1,0 +1,356 @@
+-- One order's bytes: what is written is read (read-written), only the shortest form is read (only-shortest), and how many bytes there are.
+use Prim.Native.Nat.{ℕ, zero, suc, _+_, _<_, _≤_}
+use mathlib.Core.Path.{_≡_, refl, sym, ap, ap₂, _∙_, subst}
+use mathlib.Core.Bool.{Bool, true, false, cond}
+use mathlib.Core.List.{List, [], _∷_, _++_, append-assoc}
+use native.Mathlib.Omega.{arith}
+use lib.Dec.{ltb}
+use lib.ListN.{length, drop, length-append, length-drop}
+use lib.Seq.{drop-drop, drop-append-seam, getD-drop}
+use borrow.Author.Tests.{lt-ltb, ne-eqb}
+use Rattle.definitions.specs.declared.Order.{Order}
+use Rattle.definitions.specs.declared.Order.the-variants.{Constant, Sum, Difference, Product, Less, Equal}
+use Rattle.definitions.specs.Limits.{cellCount, modulus}
+use Rattle.definitions.specs.Machine.{WellFormed, ThreeCells}
+use Rattle.definitions.specs.Bytes.{numberLimit, numberBytes, cellsBytes, orderBytes, Number, short, bad, number, readGroups, Read, fault, found, placed, numberAt, below, kindAt, cellAt, constantAt, andThen, cellsOrder, lastAt, restAt, targetAt, orderAt}
+use Rattle.laws.specs.Tests.{Lt?, less, more, lt?, Eq?, same, diff, eq?}
+use Rattle.codec.specs.Groups as groups
+use Rattle.codec.specs.Groups.{Bytes, groupsLimit}
+
+-- ---- how many bytes an order has, and that they are bytes
+
+pub bytes-append : (xs ys : List ℕ) → Bytes xs → Bytes ys → Bytes (xs ++ ys)
+bytes-append [] ys p q i = q i
+bytes-append (x ∷ xs) ys p q zero = p 0
+bytes-append (x ∷ xs) ys p q (suc i) = bytes-append xs ys (λ j. p (suc j)) q i
+
+number-bytes : (v : ℕ) → Bytes (numberBytes v)
+unfolding numberBytes
+number-bytes v = groups.groups-bytes 5 v
+
+cells-bytes : (kind d a b : ℕ) → Bytes (cellsBytes kind d a b)
+cells-bytes kind d a b = bytes-append (numberBytes kind) (numberBytes d ++ (numberBytes a ++ numberBytes b)) (number-bytes kind) (bytes-append (numberBytes d) (numberBytes a ++ numberBytes b) (number-bytes d) (bytes-append (numberBytes a) (numberBytes b) (number-bytes a) (number-bytes b)))
+
+pub order-bytes : (o : Order) → Bytes (orderBytes o)
+unfolding orderBytes
+order-bytes (Constant d k) = bytes-append (numberBytes 0) (numberBytes d ++ numberBytes k) (number-bytes 0) (bytes-append (numberBytes d) (numberBytes k) (number-bytes d) (number-bytes k))
+order-bytes (Sum d a b) = cells-bytes 1 d a b
+order-bytes (Difference d a b) = cells-bytes 2 d a b
+order-bytes (Product d a b) = cells-bytes 3 d a b
+order-bytes (Less d a b) = cells-bytes 4 d a b
+order-bytes (Equal d a b) = cells-bytes 5 d a b
+
+length₃ : (x y z : List ℕ) → length (x ++ (y ++ z)) ≡ length x + length y + length z
+length₃ x y z = omega (arith, length-append x (y ++ z), length-append y z)
+
+length₄ : (w x y z : List ℕ) → length (w ++ (x ++ (y ++ z))) ≡ length w + length x + length y + length z
+length₄ w x y z = omega (arith, length-append w (x ++ (y ++ z)), length-append x (y ++ z), length-append y z)
+
+number-some : (v : ℕ) → 1 ≤ length (numberBytes v)
+unfolding numberBytes
+number-some v = groups.at-least-one 4 v
+
+cells-some : (kind d a b : ℕ) → 3 ≤ length (cellsBytes kind d a b)
+cells-some kind d a b = omega (arith, length₄ (numberBytes kind) (numberBytes d) (numberBytes a) (numberBytes b), number-some kind, number-some d, number-some a)
+
+pub at-least-three : (o : Order) → 3 ≤ length (orderBytes o)
+unfolding orderBytes
+at-least-three (Constant d k) = omega (arith, length₃ (numberBytes 0) (numberBytes d) (numberBytes k), number-some 0, number-some d, number-some k)
+at-least-three (Sum d a b) = cells-some 1 d a b
+at-least-three (Difference d a b) = cells-some 2 d a b
+at-least-three (Product d a b) = cells-some 3 d a b
+at-least-three (Less d a b) = cells-some 4 d a b
+at-least-three (Equal d a b) = cells-some 5 d a b
+
+kind-size : (v : ℕ) → v < 6 → length (numberBytes v) ≤ 1
+unfolding numberBytes groupsLimit
+kind-size v h = groups.at-most-within 0 5 v (omega arith)
+
+cell-size : (v : ℕ) → v < cellCount → length (numberBytes v) ≤ 2
+unfolding numberBytes groupsLimit
+cell-size v h = groups.at-most-within 1 5 v (omega arith)
+
+number-size : (v : ℕ) → length (numberBytes v) ≤ 5
+unfolding numberBytes
+number-size v = groups.at-most 5 v
+
+cells-size : (kind d a b : ℕ) → kind < 6 → ThreeCells d a b → length (cellsBytes kind d a b) ≤ 8
+cells-size kind d a b h w = omega (arith, length₄ (numberBytes kind) (numberBytes d) (numberBytes a) (numberBytes b), kind-size kind h, cell-size d (w .0), cell-size a (w .1), cell-size b (w .2))
+
+-- "The longest order is 8 bytes."
+pub at-most-eight : (o : Order) → WellFormed o → length (orderBytes o) ≤ 8
+unfolding orderBytes
+at-most-eight (Constant d k) w = omega (arith, length₃ (numberBytes 0) (numberBytes d) (numberBytes k), kind-size 0 (omega arith), cell-size d (w .0), number-size k)
+at-most-eight (Sum d a b) w = cells-size 1 d a b (omega arith) w
+at-most-eight (Difference d a b) w = cells-size 2 d a b (omega arith) w
+at-most-eight (Product d a b) w = cells-size 3 d a b (omega arith) w
+at-most-eight (Less d a b) w = cells-size 4 d a b (omega arith) w
+at-most-eight (Equal d a b) w = cells-size 5 d a b (omega arith) w
+
+-- ---- what is written is read
+
+module _ (s : List ℕ) where
+  -- a number below a limit, and what stands behind it
+  record There (r : Read ℕ) (at v : ℕ) (rest : List ℕ) : Type 0 where
+    read : r ≡ found v (at + length (numberBytes v))
+    then : drop (at + length (numberBytes v)) s ≡ rest
+
+  number-there : (at v : ℕ) (rest : List ℕ) → v < numberLimit → drop at s ≡ numberBytes v ++ rest → There (numberAt s at) at v rest
+  unfolding numberAt numberBytes groupsLimit
+  number-there at v rest h e =
+      record {
+        read = ap (λ (l : List ℕ). placed at (readGroups 5 true l)) e ∙ ap (placed at) (groups.read-written 4 v rest (omega arith)) ∙ simp (lt-ltb v numberLimit h);
+        then = sym (drop-drop (length (numberBytes v)) at s) ∙ ap (drop (length (numberBytes v))) e ∙ drop-append-seam (numberBytes v) rest;
+      }
+
+  below-there : (limit refusal at v : ℕ) (rest : List ℕ) → limit ≤ numberLimit → v < limit → drop at s ≡ numberBytes v ++ rest → There (below limit refusal (numberAt s at)) at v rest
+  below-there limit refusal at v rest l h e =
+      let n = number-there at v rest (omega arith) e in
+      record { read = ap (below limit refusal) (n .read) ∙ simp (lt-ltb v limit h); then = n .then }
+
+  kind-there : (at v : ℕ) (rest : List ℕ) → v < 6 → drop at s ≡ numberBytes v ++ rest → There (kindAt s at) at v rest
+  unfolding kindAt
+  kind-there at v rest h e = below-there 6 10 at v rest (omega arith) h e
+
+  cell-there : (at v : ℕ) (rest : List ℕ) → v < cellCount → drop at s ≡ numberBytes v ++ rest → There (cellAt s at) at v rest
+  unfolding cellAt
+  cell-there at v rest h e = below-there cellCount 12 at v rest (omega arith) h e
+
+  constant-there : (at v : ℕ) (rest : List ℕ) → v < modulus → drop at s ≡ numberBytes v ++ rest → There (constantAt s at) at v rest
+  unfolding constantAt
+  constant-there at v rest h e = below-there modulus 12 at v rest (omega arith) h e
+
+  constant-order-there : (at d k : ℕ) (rest : List ℕ) → (d < cellCount) × (k < modulus) → drop at s ≡ (numberBytes 0 ++ (numberBytes d ++ numberBytes k)) ++ rest
+      → orderAt s at ≡ found (Constant d k) (at + length (numberBytes 0 ++ (numberBytes d ++ numberBytes k)))
+  unfolding orderAt targetAt restAt
+  constant-order-there at d k rest w e =
+      let n₁ = kind-there at 0 (numberBytes d ++ (numberBytes k ++ rest)) (omega arith) (simp append-assoc at e) in
+      let n₂ = cell-there (at + length (numberBytes 0)) d (numberBytes k ++ rest) (w .0) (n₁ .then) in
+      let n₃ = constant-there (at + length (numberBytes 0) + length (numberBytes d)) k rest (w .1) (n₂ .then) in
+      rw (n₁ .read, n₂ .read, n₃ .read) (ap (found (Constant d k)) (omega (arith, length₃ (numberBytes 0) (numberBytes d) (numberBytes k))))
+
+  cells-order-there : (at kind d a b : ℕ) (rest : List ℕ) → 0 < kind → kind < 6 → ThreeCells d a b → drop at s ≡ cellsBytes kind d a b ++ rest
+      → orderAt s at ≡ found (cellsOrder kind d a b) (at + length (cellsBytes kind d a b))
+  unfolding orderAt targetAt restAt lastAt
+  cells-order-there at kind d a b rest h k w e =
+      let n₁ = kind-there at kind (numberBytes d ++ (numberBytes a ++ (numberBytes b ++ rest))) k (simp append-assoc at e) in
+      let n₂ = cell-there (at + length (numberBytes kind)) d (numberBytes a ++ (numberBytes b ++ rest)) (w .0) (n₁ .then) in
+      let n₃ = cell-there (at + length (numberBytes kind) + length (numberBytes d)) a (numberBytes b ++ rest) (w .1) (n₂ .then) in
+      let n₄ = cell-there (at + length (numberBytes kind) + length (numberBytes d) + length (numberBytes a)) b rest (w .2) (n₃ .then) in
+      let z : kind ≡ 0 → ⊥ = λ q. let x : ⊥ = omega arith in x in
+      rw (n₁ .read, n₂ .read, ne-eqb kind 0 z, n₃ .read, n₄ .read) (ap (found (cellsOrder kind d a b)) (omega (arith, length₄ (numberBytes kind) (numberBytes d) (numberBytes a) (numberBytes b))))
+
+  pub read-written-at : (at : ℕ) (o : Order) (rest : List ℕ) → WellFormed o → drop at s ≡ orderBytes o ++ rest → orderAt s at ≡ found o (at + length (orderBytes o))
+  unfolding orderBytes
+  read-written-at at (Constant d k) rest w e = constant-order-there at d k rest w e
+  read-written-at at (Sum d a b) rest w e = cells-order-there at 1 d a b rest (omega arith) (omega arith) w e
+  read-written-at at (Difference d a b) rest w e = cells-order-there at 2 d a b rest (omega arith) (omega arith) w e
+  read-written-at at (Product d a b) rest w e = cells-order-there at 3 d a b rest (omega arith) (omega arith) w e
+  read-written-at at (Less d a b) rest w e = cells-order-there at 4 d a b rest (omega arith) (omega arith) w e
+  read-written-at at (Equal d a b) rest w e = cells-order-there at 5 d a b rest (omega arith) (omega arith) w e
+
+pub read-written : (front : List ℕ) (o : Order) (rest : List ℕ) → WellFormed o → orderAt (front ++ (orderBytes o ++ rest)) (length front) ≡ found o (length front + length (orderBytes o))
+read-written front o rest w = read-written-at (front ++ (orderBytes o ++ rest)) (length front) o rest w (drop-append-seam front (orderBytes o ++ rest))
+
+-- ---- only the shortest form is read
+
+fault-found {ℓ} : {X : Type ℓ} {A : Type 0} {k : ℕ} {a : A} {next : ℕ} → fault k ≡ found a next → X
+fault-found e = absurd (let z : _≡_ {A = ℕ} 0 1 = cc in omega arith)
+
+-- a number before what follows it
+record Through {A : Type 0} (r : Read ℕ) (f : ℕ → ℕ → Read A) (a : A) (next : ℕ) : Type 0 where
+  value : ℕ
+  mid : ℕ
+  was : r ≡ found value mid
+  rest : f value mid ≡ found a next
+
+through : {A : Type 0} (r : Read ℕ) (f : ℕ → ℕ → Read A) (a : A) (next : ℕ) → andThen r f ≡ found a next → Through r f a next
+through (fault k) f a next e = fault-found e
+through (found v mid) f a next e = record { value = v; mid = mid; was = refl; rest = e }
+
+cells-order-bytes : (kind d a b : ℕ) → 0 < kind → kind < 6 → orderBytes (cellsOrder kind d a b) ≡ cellsBytes kind d a b
+unfolding orderBytes
+cells-order-bytes zero d a b h k = absurd (let x : ⊥ = omega arith in x)
+cells-order-bytes (suc zero) d a b h k = refl
+cells-order-bytes (suc (suc zero)) d a b h k = refl
+cells-order-bytes (suc (suc (suc zero))) d a b h k = refl
+cells-order-bytes (suc (suc (suc (suc zero)))) d a b h k = refl
+cells-order-bytes (suc (suc (suc (suc (suc zero))))) d a b h k = refl
+cells-order-bytes (suc (suc (suc (suc (suc (suc n)))))) d a b h k = absurd (let x : ⊥ = omega arith in x)
+
+cells-order-well-formed : (kind d a b : ℕ) → ThreeCells d a b → WellFormed (cellsOrder kind d a b)
+cells-order-well-formed zero d a b w = w
+cells-order-well-formed (suc zero) d a b w = w
+cells-order-well-formed (suc (suc zero)) d a b w = w
+cells-order-well-formed (suc (suc (suc zero))) d a b w = w
+cells-order-well-formed (suc (suc (suc (suc zero)))) d a b w = w
+cells-order-well-formed (suc (suc (suc (suc (suc n))))) d a b w = w
+
+constant-order-bytes : (d k : ℕ) → orderBytes (Constant d k) ≡ (numberBytes 0 ++ numberBytes d) ++ numberBytes k
+unfolding orderBytes
+constant-order-bytes d k = sym (append-assoc (numberBytes 0) (numberBytes d) (numberBytes k))
+
+bytes-drop : (n : ℕ) (s : List ℕ) → Bytes s → Bytes (drop n s)
+bytes-drop n s b i = rw (getD-drop n s i 0) (b (n + i))
+
+module _ (s : List ℕ) where
+  -- some bytes were read at an offset, with the offset after them
+  record Passed (at : ℕ) (xs : List ℕ) (next : ℕ) : Type 0 where
+    onward : at < next
+    within : next ≤ length s
+    form : Bytes s → drop at s ≡ xs ++ drop next s
+
+  passed-both : {at mid next : ℕ} {xs ys : List ℕ} → Passed at xs mid → Passed mid ys next → Passed at (xs ++ ys) next
+  passed-both {at} {mid} {next} {xs} {ys} p q =
+      record {
+        onward = omega (arith, p .onward, q .onward);
+        within = q .within;
+        form = λ b. p .form b ∙ ap (λ (l : List ℕ). xs ++ l) (q .form b) ∙ sym (append-assoc xs ys (drop next s));
+      }
+
+  number-passed : (at v next : ℕ) → numberAt s at ≡ found v next → Passed at (numberBytes v) next
+  unfolding numberAt numberBytes
+  number-passed at v next e = go (readGroups 5 true (drop at s)) refl e
+    where
+      go : (r : Number) → readGroups 5 true (drop at s) ≡ r → placed at r ≡ found v next → Passed at (numberBytes v) next
+      go short q e = fault-found e
+      go bad q e = fault-found e
+      go (number w n) q e = in-limit (ltb w numberLimit) e
+        where
+          in-limit : (t : Bool) → cond t (found w (at + n)) (fault 11) ≡ found v next → Passed at (numberBytes v) next
+          in-limit true e =
+              let a : w ≡ v = cc in
+              let b : at + n ≡ next = cc in
+              let r = groups.only-shortest 5 true (drop at s) w n q in
+              record {
+                onward = omega (arith, r .some);
+                within = omega (arith, r .some, r .inside, length-drop at s);
+                form = λ o. r .form (bytes-drop at s o) ∙ ap₂ (λ (x : ℕ) (l : List ℕ). numberBytes x ++ l) a (drop-drop n at s ∙ ap (λ (x : ℕ). drop x s) b);
+              }
+          in-limit false e = fault-found e
+
+  -- a number below its limit
+  record Limited (limit at v next : ℕ) : Type 0 where
+    small : v < limit
+    passed : Passed at (numberBytes v) next
+
+  below-passed : (limit refusal at v next : ℕ) → below limit refusal (numberAt s at) ≡ found v next → Limited limit at v next
+  below-passed limit refusal at v next e = go (numberAt s at) refl e
+    where
+      go : (r : Read ℕ) → numberAt s at ≡ r → below limit refusal r ≡ found v next → Limited limit at v next
+      go (fault k) q e = fault-found e
+      go (found w n) q e = in-limit (lt? w limit) e
+        where
+          in-limit : {t : Bool} → Lt? w limit t → cond t (found w n) (fault refusal) ≡ found v next → Limited limit at v next
+          in-limit (less h) e = let p : w ≡ v = cc in record { small = omega arith; passed = number-passed at v next (q ∙ e) }
+          in-limit (more h) e = fault-found e
+
+  kind-passed : (at v next : ℕ) → kindAt s at ≡ found v next → Limited 6 at v next
+  unfolding kindAt
+  kind-passed at v next e = below-passed 6 10 at v next e
+
+  cell-passed : (at v next : ℕ) → cellAt s at ≡ found v next → Limited cellCount at v next
+  unfolding cellAt
+  cell-passed at v next e = below-passed cellCount 12 at v next e
+
+  constant-passed : (at v next : ℕ) → constantAt s at ≡ found v next → Limited modulus at v next
+  unfolding constantAt
+  constant-passed at v next e = below-passed modulus 12 at v next e
+
+  -- the rest of an order whose first numbers have some bytes
+  record Rest (front : List ℕ) (at : ℕ) (o : Order) (next : ℕ) : Type 0 where
+    wellFormed : WellFormed o
+    bytes : List ℕ
+    whole : orderBytes o ≡ front ++ bytes
+    passed : Passed at bytes next
+
+  -- one number earlier
+  earlier : (front xs : List ℕ) (at mid : ℕ) (o : Order) (next : ℕ) → Passed at xs mid → Rest (front ++ xs) mid o next → Rest front at o next
+  earlier front xs at mid o next p r =
+      record { wellFormed = r .wellFormed; bytes = xs ++ r .bytes; whole = r .whole ∙ append-assoc front xs (r .bytes); passed = passed-both p (r .passed) }
+
+  last-rest : (kind d a at : ℕ) (o : Order) (next : ℕ) → 0 < kind → kind < 6 → d < cellCount → a < cellCount → lastAt s kind d a at ≡ found o next → Rest ((numberBytes kind ++ numberBytes d) ++ numberBytes a) at o next
+  unfolding lastAt
+  last-rest kind d a at o next h k hd ha e =
+      let t = through (cellAt s at) (λ b n. found (cellsOrder kind d a b) n) o next e in
+      let b : ℕ = t .value in
+      let l = cell-passed at b (t .mid) (t .was) in
+      let q : found (cellsOrder kind d a b) (t .mid) ≡ found o next = t .rest in
+      let u : cellsOrder kind d a b ≡ o = cc in
+      let w : t .mid ≡ next = cc in
+      record {
+        wellFormed = subst WellFormed u (cells-order-well-formed kind d a b (hd, ha, l .small));
+        bytes = numberBytes b;
+        whole = sym (ap orderBytes u) ∙ cells-order-bytes kind d a b h k ∙ sym (simp append-assoc);
+        passed = subst (λ (n : ℕ). Passed at (numberBytes b) n) w (l .passed);
+      }
+
+  constant-rest : (d at : ℕ) (o : Order) (next : ℕ) → d < cellCount → andThen (constantAt s at) (λ k n. found (Constant d k) n) ≡ found o next → Rest (numberBytes 0 ++ numberBytes d) at o next
+  constant-rest d at o next hd e =
+      let t = through (constantAt s at) (λ k n. found (Constant d k) n) o next e in
+      let k : ℕ = t .value in
+      let l = constant-passed at k (t .mid) (t .was) in
+      let q : found (Constant d k) (t .mid) ≡ found o next = t .rest in
+      let u : Constant d k ≡ o = cc in
+      let w : t .mid ≡ next = cc in
+      let f : WellFormed (Constant d k) = (hd, l .small) in
+      record {
+        wellFormed = subst WellFormed u f;
+        bytes = numberBytes k;
+        whole = sym (ap orderBytes u) ∙ constant-order-bytes d k;
+        passed = subst (λ (n : ℕ). Passed at (numberBytes k) n) w (l .passed);
+      }
+
+  rest-rest : (kind d at : ℕ) (o : Order) (next : ℕ) → kind < 6 → d < cellCount → restAt s kind d at ≡ found o next → Rest (numberBytes kind ++ numberBytes d) at o next
+  unfolding restAt
+  rest-rest kind d at o next k hd e = go (eq? kind 0) e
+    where
+      go : {t : Bool} → Eq? kind 0 t → cond t (andThen (constantAt s at) (λ x n. found (Constant d x) n)) (andThen (cellAt s at) (λ a n. lastAt s kind d a n)) ≡ found o next → Rest (numberBytes kind ++ numberBytes d) at o next
+      go (same p) e = subst (λ (x : ℕ). Rest (numberBytes x ++ numberBytes d) at o next) (sym p) (constant-rest d at o next hd e)
+      go (diff p) e =
+          let t = through (cellAt s at) (λ a n. lastAt s kind d a n) o next e in
+          let l = cell-passed at (t .value) (t .mid) (t .was) in
+          let h : 0 < kind = omega arith in
+          earlier (numberBytes kind ++ numberBytes d) (numberBytes (t .value)) at (t .mid) o next (l .passed) (last-rest kind d (t .value) (t .mid) o next h k hd (l .small) (t .rest))
+
+  target-rest : (kind at : ℕ) (o : Order) (next : ℕ) → kind < 6 → targetAt s kind at ≡ found o next → Rest (numberBytes kind) at o next
+  unfolding targetAt
+  target-rest kind at o next k e =
+      let t = through (cellAt s at) (λ d n. restAt s kind d n) o next e in
+      let l = cell-passed at (t .value) (t .mid) (t .was) in
+      earlier (numberBytes kind) (numberBytes (t .value)) at (t .mid) o next (l .passed) (rest-rest kind (t .value) (t .mid) o next k (l .small) (t .rest))
+
+  order-rest : (at : ℕ) (o : Order) (next : ℕ) → orderAt s at ≡ found o next → Rest [] at o next
+  unfolding orderAt
+  order-rest at o next e =
+      let t = through (kindAt s at) (λ kind n. targetAt s kind n) o next e in
+      let l = kind-passed at (t .value) (t .mid) (t .was) in
+      earlier [] (numberBytes (t .value)) at (t .mid) o next (l .passed) (target-rest (t .value) (t .mid) o next (l .small) (t .rest))
+
+  -- what is known of an order that was read
+  pub record OrderRead (at : ℕ) (o : Order) (next : ℕ) : Type 0 where
+    pub wellFormed : WellFormed o
+    pub onward : at < next
+    pub within : next ≤ length s
+
+  pub order-read : (at : ℕ) (o : Order) (next : ℕ) → orderAt s at ≡ found o next → OrderRead at o next
+  order-read at o next e = let r = order-rest at o next e in record { wellFormed = r .wellFormed; onward = r .passed .onward; within = r .passed .within }
+
+  -- it stands there in the bytes that are written for it
+  pub record Shortest (at : ℕ) (o : Order) (next : ℕ) : Type 0 where
+    pub wellFormed : WellFormed o
+    pub bytes : drop at s ≡ orderBytes o ++ drop next s
+    pub size : next ≡ at + length (orderBytes o)
+    pub within : next ≤ length s
+
+  pub only-shortest : (at : ℕ) (o : Order) (next : ℕ) → Bytes s → orderAt s at ≡ found o next → Shortest at o next
+  only-shortest at o next b e =
+      let r = order-rest at o next e in
+      let p = r .passed in
+      let form : drop at s ≡ orderBytes o ++ drop next s = p .form b ∙ ap (λ (l : List ℕ). l ++ drop next s) (sym (r .whole)) in
+      record {
+        wellFormed = r .wellFormed;
+        bytes = form;
+        size = omega (arith, ap length form, length-append (orderBytes o) (drop next s), length-drop at s, length-drop next s, p .onward, p .within);
+        within = p .within;
+      }

@@ -1,0 +1,2 @@
+-- What the proofs of the runner share.
+pub mod Turns

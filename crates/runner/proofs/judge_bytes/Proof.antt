@@ -1,0 +1,70 @@
+-- `runner::judge_bytes` meets its contract. The loop's invariant: what is left of the bytes decides. The measure is what is left of the length.
+use Prim.Native.Nat.{_-_, _≤_}
+use mathlib.Core.Path.{_≡_, sym, ap, _∙_}
+use native.Mathlib.Omega.{arith}
+use lib.ListN.{length}
+use borrow.Author.Needs.{needs}
+use Rattle.definitions.specs.Answers.{refusalOf}
+use Rattle.definitions.specs.Bytes.{orderAt, Parsed, parse}
+use Rattle.codec.specs.Answer.{given, answerAt, orderAnswer}
+use Rattle.codec.specs.PlanBytes.{parseRest, rest-start, rest-end}
+use Rattle.runner.proofs.Turns.{turn-refused, turn-order, turn-read}
+use Rattle.runner.proofs.judge_bytes.Statement.{statement}
+use Rattle.runner.proofs.judge_bytes.Tie as tie
+
+abbrev Inv-loop : tie.InvT-loop
+Inv-loop bytes at₀ at = (at ≤ length bytes) × (parse bytes .refusal ≡ parseRest bytes at .refusal)
+
+abbrev μ-loop : tie.MeasureT-loop
+μ-loop bytes at₀ at = length bytes - at
+
+loop-holds : tie.Need-loop-holds Inv-loop μ-loop
+loop-holds c = (omega arith, ap (λ (p : Parsed). p .refusal) (rest-start (c .before .args .bytes .now)))
+
+read-order-requires : tie.Need-read-order-requires Inv-loop μ-loop
+read-order-requires c κs = tt
+
+enum-known-verdict : tie.Need-enum-known-verdict Inv-loop μ-loop
+enum-known-verdict c = search needs
+
+returns : tie.Need-returns Inv-loop μ-loop
+returns c =
+    let l = c .before .before .before .before .before .loop in
+    let b = c .before .before .before .before .before .before .before .args .bytes .now in
+    sym (l .inv .1 ∙ ap (λ (p : Parsed). p .refusal) (turn-refused b (l .at) (c .before .before .before .before .loop-test .taken) (refusalOf (c .before .verdict .given .0 .0)) (sym (ap orderAnswer (c .before .verdict .given .1)) ∙ c .before .before .before .read-order .ensures)))
+
+enum-known-next : tie.Need-enum-known-next Inv-loop μ-loop
+enum-known-next c = search needs
+
+-- the order that was read
+answered : (c : tie.After-known-told2 Inv-loop μ-loop) → given (c .before .next .given .0 .0) (c .before .next .given .0 .1 .0) ≡ answerAt (c .before .before .before .before .before .loop .at) (orderAt (c .before .before .before .before .before .before .before .args .bytes .now) (c .before .before .before .before .before .loop .at))
+answered c = sym (ap orderAnswer (c .before .next .given .1)) ∙ c .before .before .before .read-order .ensures
+
+loop-less : tie.Need-loop-less Inv-loop μ-loop
+loop-less c = omega (arith, turn-read _ _ _ _ (answered c) .onward, turn-read _ _ _ _ (answered c) .within)
+
+loop-again : tie.Need-loop-again Inv-loop μ-loop
+loop-again c =
+    let l = c .before .before .before .before .before .loop in
+    let b = c .before .before .before .before .before .before .before .args .bytes .now in
+    (turn-read b (l .at) _ _ (answered c) .within, l .inv .1 ∙ ap (λ (p : Parsed). p .refusal) (turn-order b (l .at) (c .before .before .before .before .loop-test .taken) _ _ (answered c)))
+
+returns-2 : tie.Need-returns-2 Inv-loop μ-loop
+returns-2 c =
+    let l = c .before .loop in
+    sym (l .inv .1 ∙ ap (λ (p : Parsed). p .refusal) (rest-end (c .before .before .before .args .bytes .now) (l .at) (c .loop-test .left)))
+
+pub judge-bytes-spec : {M : Type 1} → statement M
+judge-bytes-spec =
+    tie.close
+    (tie.spec
+    Inv-loop
+    μ-loop
+    loop-holds
+    read-order-requires
+    enum-known-verdict
+    returns
+    enum-known-next
+    loop-less
+    loop-again
+    returns-2)

@@ -1,0 +1,62 @@
+-- `runner::run` meets its contract: the sheet changes only after all has been judged and nothing refused.
+use mathlib.Core.Path.{_≡_, sym, ap, _∙_}
+use mathlib.Core.Bool.{true, false}
+use Rattle.definitions.specs.Answers.{isNone}
+use Rattle.definitions.specs.Calls.{runRefusal}
+use Rattle.laws.specs.Refusal.{is-none}
+use Rattle.runner.specs.Runs.{accepted-sheet, sheet-accepted, sheet-refused, count-accepted, count-refused}
+use borrow.Author.Needs.{needs}
+use Rattle.runner.proofs.run.Statement.{statement}
+use Rattle.runner.proofs.run.Tie as tie
+
+-- what the judgement said
+accepted : (c : tie.Then1) → let a = c .before .before .before .before .before .before .args in isNone (runRefusal (a .sheet .now) (a .bytes .now)) ≡ true
+accepted c = sym (ap isNone (c .before .before .judge-run .ensures)) ∙ sym (c .before .is-accepted .ensures) ∙ c .if1 .taken
+
+refused : (c : tie.Else1) → let a = c .before .before .before .before .before .before .args in isNone (runRefusal (a .sheet .now) (a .bytes .now)) ≡ false
+refused c = sym (ap isNone (c .before .before .judge-run .ensures)) ∙ sym (c .before .is-accepted .ensures) ∙ c .if1 .left
+
+judge-run-requires : tie.Need-judge-run-requires
+judge-run-requires c κs = search needs
+
+is-accepted-requires : tie.Need-is-accepted-requires
+is-accepted-requires c κs = search needs
+
+run-orders-requires : tie.Need-run-orders-requires
+run-orders-requires c κs =
+    let a = c .before .before .before .before .before .before .before .args in
+    accepted-sheet (a .sheet .now) (a .bytes .now) (is-none (runRefusal (a .sheet .now) (a .bytes .now)) (accepted (c .before)))
+
+same-length : tie.Need-same-length
+same-length c = search needs
+
+returns : tie.Need-returns
+returns c =
+    let a = c .before .before .before .before .before .before .before .before .before .before .args in
+    let p = c .before .before .run-orders in
+    let t = accepted (c .before .before .before .before) in (
+      c .before .before .before .before .before .before .judge-run .ensures,
+      (p .ensures .0 ∙ sym (count-accepted (a .sheet .now) (a .bytes .now) t), p .ensures .1 ∙ sym (sheet-accepted (a .sheet .now) (a .bytes .now) t)),
+    )
+
+same-length-2 : tie.Need-same-length-2
+same-length-2 c = search needs
+
+returns-2 : tie.Need-returns-2
+returns-2 c =
+    let a = c .before .before .before .before .before .before .args in (
+      c .before .before .judge-run .ensures,
+      (sym (count-refused (a .sheet .now) (a .bytes .now) (refused c)), sym (sheet-refused (a .sheet .now) (a .bytes .now) (refused c))),
+    )
+
+pub run-spec : {M : Type 1} → statement M
+run-spec =
+    tie.close
+    (tie.spec
+    judge-run-requires
+    is-accepted-requires
+    run-orders-requires
+    same-length
+    returns
+    same-length-2
+    returns-2)

@@ -1,0 +1,2 @@
+-- What is proved of the runner's definitions.
+pub mod Runs
