@@ -7,7 +7,7 @@ ghost use lib.Dec.{eqb};
 ghost use lib.ListN.{length};
 ghost use Rattle.definitions.specs.Limits.{bidLimit, poolLimit, cellCount, bidNumbers};
 ghost use Rattle.definitions.specs.Arithmetic.{within};
-ghost use Rattle.definitions.specs.Answers.{refusalOf, numbered};
+ghost use Rattle.definitions.specs.Answers.{refusalOf, numbered, first};
 ghost use Rattle.definitions.specs.Book.{book};
 ghost use Rattle.definitions.specs.Calls.{poolsRefusal, countsRefusal, lengthRefusal, bidFault, bidRefusal, bidsRefusal, capacityFault, capacitiesRefusal, sealRefusal, cellsRefusal};
 use definitions::Limits;
@@ -153,6 +153,16 @@ fn judge_capacities(m: usize, capacities: &[i32]) -> Verdict
     verdict
 }
 
+// The first of two verdicts that refuses.
+fn first_of(verdict: Verdict, next: Verdict) -> Verdict
+    ensures { λ r. ⌜ refusalOf r ≡ first (refusalOf verdict) (refusalOf next) ⌝ }
+{
+    if is_accepted(verdict) {
+        return next;
+    }
+    verdict
+}
+
 // A book, and the length of the sheet that it is to be sealed in: counts, lengths, bids, capacities.
 pub fn judge_book(n: usize, m: usize, bids: &[i32], capacities: &[i32], cells: usize) -> Verdict
     ensures { λ r. ⌜ refusalOf r ≡ sealRefusal (book n m (now (bids .entry)) (now (capacities .entry))) cells ⌝ }
@@ -166,10 +176,8 @@ pub fn judge_book(n: usize, m: usize, bids: &[i32], capacities: &[i32], cells: u
         return by_lengths;
     }
     let by_bids = judge_bids(n, m, bids);
-    if !is_accepted(by_bids) {
-        return by_bids;
-    }
-    judge_capacities(m, capacities)
+    let by_capacities = judge_capacities(m, capacities);
+    first_of(by_bids, by_capacities)
 }
 
 // The first cell that is no residue: 15.

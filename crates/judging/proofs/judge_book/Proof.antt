@@ -1,14 +1,14 @@
 -- Four judges in turn; what the first two let through is what the others require.
-use mathlib.Core.Path.{_≡_, refl, _∙_}
+use Prim.Native.Nat.{ℕ}
+use mathlib.Core.Path.{_≡_, refl, ap₂, _∙_}
 use mathlib.Core.Bool.{_&&_}
 use mathlib.Core.List.{List, []}
 use lib.Dec.{eqb}
 use lib.IntN.{ℤ}
 use lib.ListN.{length}
-use Prim.Native.Nat.{ℕ}
 use borrow.Author.Needs.{needs}
 use Rattle.definitions.specs.Limits.{cellCount}
-use Rattle.definitions.specs.Answers.{Refusal, none, first, refusalOf}
+use Rattle.definitions.specs.Answers.{Refusal, none, first}
 use Rattle.definitions.specs.Book.{Book, book}
 use Rattle.definitions.specs.Calls.{countsRefusal, lengthRefusal, tablesRight, bidsRefusal, rowRefusal, capacitiesRefusal, sealRefusal}
 use Rattle.laws.specs.Search.{first-to-refuse, let-through, after-none}
@@ -44,13 +44,10 @@ returns : tie.Need-returns
 unfolding sealRefusal
 returns c =
     let s = c .before .before .before in
-    first-to-refuse (c .before .before .judge-counts .ensures) (c .before .is-accepted .ensures)
-    (first (lengthsOf s) (afterLengths s)) (c .if1 .taken)
+    first-to-refuse (c .before .before .judge-counts .ensures) (c .before .is-accepted .ensures) (first (lengthsOf s) (afterLengths s)) (c .if1 .taken)
 
 counts-passed : (c : tie.Else1) → let s = c .before .before .before in countsRefusal (s .args .n) (s .args .m) ≡ none
-counts-passed c =
-    let s = c .before .before .before in
-    let-through (c .before .before .judge-counts .ensures) (c .before .is-accepted .ensures) (c .if1 .left)
+counts-passed c = let-through (c .before .before .judge-counts .ensures) (c .before .is-accepted .ensures) (c .if1 .left)
 
 counts : (c : tie.Else1) → let s = c .before .before .before in Counts (s .args .n) (s .args .m)
 counts c = counted _ _ (counts-passed c)
@@ -89,36 +86,19 @@ left c =
 judge-bids-requires : tie.Need-judge-bids-requires
 judge-bids-requires c κs = (counts (c .before .before .before) .pools .most, lengths c .bid-table)
 
-is-accepted-requires-3 : tie.Need-is-accepted-requires-3
-is-accepted-requires-3 c κs = search needs
+judge-capacities-requires : tie.Need-judge-capacities-requires
+judge-capacities-requires c κs = (counts (c .before .before .before .before) .pools .most, lengths (c .before) .capacity-table)
 
-bids-judged : (c : tie.After-judge-bids) → refusalOf (c .judge-bids .result) ≡ bidsRefusal (bookOf (c .before .before .before .before .before .before .before))
-bids-judged c =
-    let a = c .before .before .before .before .before .before .before .args in
-    c .judge-bids .ensures ∙ bids-alone (a .n) (a .m) (a .bids .now) (a .capacities .now)
+first-of-requires : tie.Need-first-of-requires
+first-of-requires c κs = search needs
 
 returns-3 : tie.Need-returns-3
 returns-3 c =
-    let j = c .before .before in
-    let B = bookOf (j .before .before .before .before .before .before .before) in
-    first-to-refuse (bids-judged j) (c .before .is-accepted3 .ensures) (capacitiesRefusal B) (c .if3 .taken)
-    ∙ left (j .before)
-
-judge-capacities-requires : tie.Need-judge-capacities-requires
-judge-capacities-requires c κs =
-    let o = c .before .before .before in
-    (counts (o .before .before .before) .pools .most, lengths o .capacity-table)
-
-returns-4 : tie.Need-returns-4
-returns-4 c =
-    let t = c .before in
-    let j = t .before .before in
-    let s = j .before .before .before .before .before .before .before in
-    let B = bookOf s in
-    let bids-passed = let-through (bids-judged j) (t .before .is-accepted3 .ensures) (t .if3 .left) in
-    c .judge-capacities .ensures
-    ∙ capacities-alone (s .args .n) (s .args .m) (s .args .bids .now) (s .args .capacities .now)
-    ∙ after-none (capacitiesRefusal B) bids-passed
+    let k = c .before in
+    let j = k .before in
+    let a = j .before .before .before .before .before .before .before .args in
+    c .first-of .ensures
+    ∙ ap₂ first (j .judge-bids .ensures ∙ bids-alone (a .n) (a .m) (a .bids .now) (a .capacities .now)) (k .judge-capacities .ensures ∙ capacities-alone (a .n) (a .m) (a .bids .now) (a .capacities .now))
     ∙ left (j .before)
 
 pub judge-book-spec : {M : Type 1} → statement M
@@ -132,7 +112,6 @@ judge-book-spec =
     is-accepted-requires-2
     returns-2
     judge-bids-requires
-    is-accepted-requires-3
-    returns-3
     judge-capacities-requires
-    returns-4)
+    first-of-requires
+    returns-3)
