@@ -1,3 +1,2 @@
 -- The plan computes the theory's closed forms, and so it clears.
-pub mod Values
 pub mod PlanClears

@@ -1,29 +1,19 @@
 -- Sets of pools as numbers: membership, complement, and sums over a set built from the sum without its lowest pool (`lowest-sum`).
-use mathlib.Core.Path.{_≡_, refl, sym, ap, _∙_}
-use mathlib.Core.Bool.{Bool, true, false, not, cond, _&&_}
+use mathlib.Core.Path.{_≡_, refl, ap, _∙_}
+use mathlib.Core.Bool.{Bool, true, false, not, cond}
 use Prim.Native.Nat.{ℕ, zero, suc, _+_, _-_, _*_, _%_, _/_, _^_, _≤_, _<_}
 use native.Mathlib.Omega.{arith}
 use lib.Dec.{eqb}
 use Rattle.definitions.specs.Arithmetic.{on, sumTo}
 use Rattle.laws.specs.Sum.{sum-ext, sum-le}
 use Rattle.laws.specs.Tests.{Eq?, same, diff, eq?}
-
--- pool p is in the set with number S: the binary digit p of S is 1
-unfoldable pub member : (S p : ℕ) → Bool
-member S zero = eqb (S % 2) 1
-member S (suc p) = member (S / 2) p
-
--- line a to b leaves S
-abbrev pub leaves : (S a b : ℕ) → Bool
-leaves S a b = member S a && not (member S b)
+unfoldable pub use Rattle.theory.specs.Subsets.{member}
+unfoldable pub use Rattle.theory.specs.ClosedForms.{subsetSum}
+pub use Rattle.theory.specs.ClosedForms.{leaves}
 
 -- the pools that are not in S
 abbrev pub complement : (m S : ℕ) → ℕ
 complement m S = 2 ^ m - 1 - S
-
--- the sum of x over the pools of S
-unfoldable pub subsetSum : (m : ℕ) (x : ℕ → ℕ) (S : ℕ) → ℕ
-subsetSum m x S = sumTo m (λ p. on (member S p) (x p))
 
 -- the lowest pool of S, and the others
 unfoldable pub lowest : (m S : ℕ) → ℕ

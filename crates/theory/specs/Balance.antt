@@ -7,7 +7,7 @@ use lib.Dec.{eqb}
 use Rattle.definitions.specs.Arithmetic.{on, sumTo}
 use Rattle.laws.specs.Sum.{sum-ext, sum-le, sum-add, sum-zero, sum-one, sum-swap}
 use Rattle.laws.specs.Tests.{Eq?, same, diff, eq?}
-use Rattle.theory.specs.Network.{Network, SoundNetwork, demand, leaving, entering, cut, amountIn}
+use Rattle.theory.specs.Network.{goesOut, Network, SoundNetwork, demand, leaving, entering, cut, amountIn}
 use Rattle.theory.specs.Choices.{on-monotone, on-add, on-on, on-and, on-sum}
 
 -- the pool p alone, and the pools not in S
@@ -121,18 +121,18 @@ module _ (N : Network) (k : SoundNetwork N) where
 
   leaving-monotone : (f h : ℕ → ℕ) (S : ℕ → Bool) → ((j : ℕ) → j < N .lines → f j ≤ h j) → leaving N f S ≤ leaving N h S
   unfolding leaving
-  leaving-monotone f h S q = sum-le _ _ _ (λ j l. on-monotone (S (N .source j) && not (S (N .target j))) (f j) (h j) (q j l))
+  leaving-monotone f h S q = sum-le _ _ _ (λ j l. on-monotone (goesOut N S j) (f j) (h j) (q j l))
 
   pub cut-bound : (x f : ℕ → ℕ) → FeasibleUse N x f → (S : ℕ → Bool) → amountIn N x S ≤ cut N S
   unfolding cut
   cut-bound x f c S = omega (arith, cut-balance x f c S, leaving-monotone f (N .capacity) S (c .capacities))
 
   -- nothing leaves all pools, and nothing enters them
-  pub leaving-all : (f : ℕ → ℕ) → leaving N f all ≡ 0
+  leaving-all : (f : ℕ → ℕ) → leaving N f all ≡ 0
   unfolding leaving
   leaving-all f = sum-zero (N .lines)
 
-  pub entering-all : (f : ℕ → ℕ) → entering N f all ≡ 0
+  entering-all : (f : ℕ → ℕ) → entering N f all ≡ 0
   unfolding entering
   entering-all f = sum-zero (N .lines)
 

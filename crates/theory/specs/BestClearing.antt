@@ -4,11 +4,19 @@ use Prim.Native.Nat.{ℕ, _<_}
 use lib.IntN.{ℤ}
 use lib.Signed.{_≤ℤ_}
 use Rattle.definitions.specs.Book.{Book}
-use Rattle.definitions.specs.Clearing.{Clearing, Feasible, Best, Permitted, used, welfare}
+use Rattle.definitions.specs.Clearing.{Clearing, Feasible, Best, Permitted, before, used, welfare}
 use Rattle.definitions.specs.Calls.{AcceptedBook}
 use Rattle.laws.specs.AcceptedBook.{accepted-sound}
+use Rattle.theory.specs.StrictOrder.{StrictTotal}
+use Rattle.theory.specs.BookNetwork.{before-strict-total}
 use Rattle.theory.specs.FlowOrder.{FirstFlows}
-use Rattle.theory.specs.CutClearing.{cutClearing, cutUsed, cut-used, used-same, cut-best, cut-permitted, cut-welfare, cut-first-flows, no-greater-antisymmetric, no-later-antisymmetric, accepted-by-used, feasible-amounts, welfare-same}
+use Rattle.theory.specs.Dictionary.{no-greater-antisymmetric, no-later-antisymmetric}
+use Rattle.theory.specs.SameClearing.{accepted-by-used, feasible-amounts, welfare-same}
+use Rattle.theory.specs.CutClearing.{cutClearing, cut-best, cut-permitted, cut-welfare, cut-first-flows}
+
+-- the merit order is a strict total order on the bids
+pub merit-order-total : (B : Book) → AcceptedBook B → StrictTotal (B .n) (before B)
+merit-order-total B h = before-strict-total B (accepted-sound B h)
 
 -- a best clearing exists, with permitted flows
 pub best-exists : (B : Book) → AcceptedBook B → (c : Clearing) × Best B c × Permitted B c
@@ -20,18 +28,16 @@ best-unique B h c d b e i l =
     accepted-by-used B c d (b .feasible) (e .feasible) i l
     (no-greater-antisymmetric B (accepted-sound B h) (used B (c .accepted)) (used B (d .accepted)) (e .greatest c (b .feasible)) (b .greatest d (e .feasible)) i l)
 
--- they are what the cuts give: each used amount is a difference of two ranks
-pub best-used : (B : Book) → AcceptedBook B → (c : Clearing) → Best B c → (i : ℕ) → i < B .n → used B (c .accepted) i ≡ cutUsed B i
-best-used B h c b i l =
-    let ok = accepted-sound B h in
-    used-same B (c .accepted) (cutClearing B .accepted) i (best-unique B h c (cutClearing B) b (cut-best B ok) i l) ∙ cut-used B ok i l
-
 -- "It has the greatest welfare too"
 pub best-welfare : (B : Book) → AcceptedBook B → (c : Clearing) → Best B c → (d : Clearing) → Feasible B d → welfare B (d .accepted) ≤ℤ welfare B (c .accepted)
 best-welfare B h c b d f =
     let ok = accepted-sound B h in
     subst (λ (z : ℤ). welfare B (d .accepted) ≤ℤ z) (welfare-same B (cutClearing B .accepted) (c .accepted) (best-unique B h (cutClearing B) c (cut-best B ok) b))
     (cut-welfare B ok d f)
+
+-- so all best clearings have one welfare
+pub welfare-of-best : (B : Book) → AcceptedBook B → (c d : Clearing) → Best B c → Best B d → welfare B (c .accepted) ≡ welfare B (d .accepted)
+welfare-of-best B h c d b e = welfare-same B (c .accepted) (d .accepted) (best-unique B h c d b e)
 
 -- to the accepted amounts of every best clearing there are permitted flows, and these are the first by rows among all that make the amounts feasible
 pub first-flows-exist : (B : Book) → AcceptedBook B → (c : Clearing) → Best B c

@@ -61,6 +61,17 @@ tie-one false false j i = go (ltb j i)
     go true = refl
     go false = refl
 
+-- the definitions' merit order compares prices as their raised numbers compare
+pub before-raised : (B : Book) (c : ℕ) (raised : ℕ → ℕ) → ((i : ℕ) → i < B .n → RaisedBy c (price B i) (raised i))
+    → (j i : ℕ) → j < B .n → i < B .n → before B j i ≡ merit raised (λ i. purchase B i) j i
+unfolding before merit
+before-raised B c raised h j i l r =
+    rw (
+      raised-less c (price B j) (price B i) (raised j) (raised i) (h j l) (h i r),
+      raised-equal c (price B j) (price B i) (raised j) (raised i) (h j l) (h i r),
+      tie-one (purchase B j) (purchase B i) j i,
+    ) refl
+
 module _ (B : Book) (ok : Sound B) where
   pub network-sound : SoundNetwork (networkOf B)
   network-sound = grid-sound (B .n) (B .m) (λ i. size B i) (λ i. poolIndex B i) (λ i. purchase B i) (λ k. capacity B (k / B .m) (k % B .m)) (ok .pool-index)
@@ -121,13 +132,7 @@ module _ (B : Book) (ok : Sound B) where
   price-raised i l = raised-by priceLimit (price B i) (raisedPrice B i) (ok .price-is i l)
 
   pub before-is : (j i : ℕ) → j < B .n → i < B .n → before B j i ≡ merit (λ i. raisedPrice B i) (λ i. purchase B i) j i
-  unfolding before merit
-  before-is j i l r =
-      rw (
-        raised-less priceLimit (price B j) (price B i) (raisedPrice B j) (raisedPrice B i) (price-raised j l) (price-raised i r),
-        raised-equal priceLimit (price B j) (price B i) (raisedPrice B j) (raisedPrice B i) (price-raised j l) (price-raised i r),
-        tie-one (purchase B j) (purchase B i) j i,
-      ) refl
+  before-is = before-raised B priceLimit (λ i. raisedPrice B i) price-raised
 
   -- "Merit order: lower limit price first; at equal price .." is a strict total order on the bids
   pub before-strict-total : StrictTotal (B .n) (before B)

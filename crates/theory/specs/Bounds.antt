@@ -9,20 +9,20 @@ use borrow.Author.Tests.{eqb-true}
 use Rattle.definitions.specs.Arithmetic.{on, sumTo}
 use Rattle.laws.specs.Extremes.{minTo}
 use Rattle.laws.specs.Sum.{sum-ext, sum-le, sum-add, sum-one, sum-bound}
-use Rattle.theory.specs.Subsets.{bit, least}
-use Rattle.theory.specs.Network.{Network, demand, leaving, cut}
-use Rattle.theory.specs.Rank.{rank, cost, outside, _with-bid_}
+use Rattle.theory.specs.Subsets.{member, least}
+use Rattle.theory.specs.Network.{goesOut, comesIn, Network, demand, leaving, cut, _adding_}
+use Rattle.theory.specs.Rank.{rank, cost, outside}
 use Rattle.theory.specs.Flows.{WithinCuts, lineFlow, rest, slack, step-one, rest-leaves, flow-enters, slack-balance}
 use Rattle.theory.specs.Choices.{on-le}
 
 -- the rank is a least over the masks
-pub rank-masks : (N : Network) (B : ℕ → Bool) → rank N B ≡ minTo (cost N B (bit 0)) (2 ^ N .pools) (λ s. cost N B (bit s))
+pub rank-masks : (N : Network) (B : ℕ → Bool) → rank N B ≡ minTo (cost N B (member 0)) (2 ^ N .pools) (λ s. cost N B (member s))
 unfolding rank least
 rank-masks N B = refl
 
 -- the slacks
 pub slack-next : (N : Network) (x : ℕ → ℕ) → WithinCuts N x → (k : ℕ) → k < N .lines → (S : ℕ → Bool)
-    → slack N x (suc k) S + on (S (N .source k) && not (S (N .target k))) (rest N x k) + on (not (S (N .source k)) && S (N .target k)) (lineFlow N x k) ≡ slack N x k S
+    → slack N x (suc k) S + on (goesOut N S k) (rest N x k) + on (comesIn N S k) (lineFlow N x k) ≡ slack N x k S
 unfolding slack rest lineFlow
 slack-next N x given k l S =
     step-one (S (N .source k)) (S (N .target k)) (slack N x k S) (rest N x k) (lineFlow N x k)
@@ -42,14 +42,14 @@ cost-one true false x v = go x
 cost-one false t true v = omega arith
 cost-one false t false v = omega arith
 
-pub cost-bound : (N : Network) (B S : ℕ → Bool) → cost N B S ≤ sumTo (N .bids) (N .size) + sumTo (N .lines) (N .capacity)
+cost-bound : (N : Network) (B S : ℕ → Bool) → cost N B S ≤ sumTo (N .bids) (N .size) + sumTo (N .lines) (N .capacity)
 unfolding cost outside cut demand leaving
 cost-bound N B S =
     omega (
       arith,
       sum-le (N .bids) _ (N .size) (λ i l. cost-one (S (N .pool i)) (N .purchase i) (B i) (N .size i)),
       sum-add (N .bids) (λ i. on (S (N .pool i) && N .purchase i) (N .size i)) (λ i. on (B i && not (S (N .pool i))) (N .size i)),
-      sum-le (N .lines) _ (N .capacity) (λ j l. on-le (S (N .source j) && not (S (N .target j))) (N .capacity j)),
+      sum-le (N .lines) _ (N .capacity) (λ j l. on-le (goesOut N S j) (N .capacity j)),
     )
 
 -- one bid more in a set adds its size to the cost of the masks that lack its pool
@@ -59,7 +59,7 @@ with-one true false s v h = omega arith
 with-one false true s v h = omega arith
 with-one false false s v h = omega arith
 
-pub cost-with : (N : Network) (B S : ℕ → Bool) (i : ℕ) → i < N .bids → B i ≡ false → cost N (B with-bid i) S ≡ cost N B S + on (not (S (N .pool i))) (N .size i)
+pub cost-with : (N : Network) (B S : ℕ → Bool) (i : ℕ) → i < N .bids → B i ≡ false → cost N (B adding i) S ≡ cost N B S + on (not (S (N .pool i))) (N .size i)
 unfolding cost outside
 cost-with N B S i l h =
     omega (

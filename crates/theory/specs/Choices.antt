@@ -1,8 +1,9 @@
 -- A value where a test holds, else 0: laws of `on`, and of tests by themselves.
-use mathlib.Core.Path.{_≡_, refl, sym}
+use mathlib.Core.Path.{_≡_, refl, sym, ap, _∙_}
 use mathlib.Core.Bool.{Bool, true, false, not, _&&_, _||_, true≢false}
 use mathlib.Core.Logic.{_⊎_, inl, inr}
-use Prim.Native.Nat.{ℕ, _+_, _≤_}
+use Prim.Native.Nat.{ℕ, zero, suc, _+_, _≤_, _<_}
+use native.Mathlib.Nat.{eq-or-lt-of-le, suc-inj}
 use native.Mathlib.Omega.{arith}
 use Rattle.definitions.specs.Arithmetic.{on, sumTo}
 use Rattle.laws.specs.Sum.{sum-zero}
@@ -71,3 +72,17 @@ and-both false t e = absurd (true≢false (sym e))
 
 pub and-made : (s t : Bool) → s ≡ true → t ≡ true → (s && t) ≡ true
 and-made s t p q = rw (p, q) refl
+
+-- some number below n that passes a test, or none
+pub search : (n : ℕ) (P : ℕ → Bool) → ((i : ℕ) × (i < n) × (P i ≡ true)) ⊎ ((i : ℕ) → i < n → P i ≡ false)
+search zero P = inr (λ i l. absurd (omega arith))
+search (suc n) P = go (search n P) (P n) refl
+  where
+    go : ((i : ℕ) × (i < n) × (P i ≡ true)) ⊎ ((i : ℕ) → i < n → P i ≡ false) → (t : Bool) → P n ≡ t → ((i : ℕ) × (i < suc n) × (P i ≡ true)) ⊎ ((i : ℕ) → i < suc n → P i ≡ false)
+    go (inl h) t e = inl (h .0, omega arith, h .2)
+    go (inr h) true e = inl (n, omega arith, e)
+    go (inr h) false e = inr (λ i l. last i (eq-or-lt-of-le l))
+      where
+        last : (i : ℕ) → (suc i ≡ suc n) ⊎ (suc i < suc n) → P i ≡ false
+        last i (inl q) = ap P (suc-inj q) ∙ e
+        last i (inr q) = h i (omega arith)

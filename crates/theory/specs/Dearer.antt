@@ -16,14 +16,13 @@ use Rattle.laws.specs.Sum.{sum-ext}
 use Rattle.laws.specs.Extremes.{minTo, min-ext}
 use Rattle.laws.specs.AcceptedBook.{Sound, accepted-sound, poolIndex, raisedPrice}
 use Rattle.theory.specs.Integers.{raised-le}
-use Rattle.theory.specs.Subsets.{bit, least}
-use Rattle.theory.specs.Network.{Network, SoundNetwork, demand, leaving, cut}
-use Rattle.theory.specs.Rank.{rank, cost, outside, _with-bid_, gains-diminish}
+use Rattle.theory.specs.Subsets.{member, least}
+use Rattle.theory.specs.Network.{Network, SoundNetwork, demand, leaving, cut, _adding_}
+use Rattle.theory.specs.Rank.{rank, cost, outside, gains-diminish}
 use Rattle.theory.specs.Greatest.{ahead, bestUsed}
 use Rattle.theory.specs.MeritOrder.{merit-raise}
 use Rattle.theory.specs.BookNetwork.{networkOf, network-sound, before-is, before-strict-total, price-raised}
-use Rattle.theory.specs.CutClearing.{cutUsed}
-use Rattle.theory.specs.BestClearing.{best-used}
+use Rattle.theory.specs.CutClearing.{cutUsed, best-used}
 
 -- ---- the rank looks only at the sizes, pools and sides of the network's bids
 
@@ -54,14 +53,14 @@ module _ (N : Network) (size pool : ℕ → ℕ) (purchase : ℕ → Bool)
   rank-same : (A : ℕ → Bool) → rank (withBids N size pool purchase) A ≡ rank N A
   unfolding rank least
   rank-same A =
-      min-ext _ (2 ^ N .pools) _ _ (λ s l. cost-same A (bit s))
-      ∙ ap (λ (z : ℕ). minTo z (2 ^ N .pools) (λ s. cost N A (bit s))) (cost-same A (bit 0))
+      min-ext _ (2 ^ N .pools) _ _ (λ s l. cost-same A (member s))
+      ∙ ap (λ (z : ℕ). minTo z (2 ^ N .pools) (λ s. cost N A (member s))) (cost-same A (member 0))
 
   -- a bid that comes later is used no more
-  pub later-no-more : SoundNetwork N → (before before' : ℕ → ℕ → Bool) (i : ℕ) → before' i i ≡ false
+  later-no-more : SoundNetwork N → (before before' : ℕ → ℕ → Bool) (i : ℕ) → before' i i ≡ false
       → ((j : ℕ) → j < N .bids → before j i ≡ true → before' j i ≡ true) → bestUsed (withBids N size pool purchase) before' i ≤ bestUsed N before i
   unfolding bestUsed
-  later-no-more ok before before' i q h = omega (arith, rank-same (ahead before' i with-bid i), rank-same (ahead before' i), gains-diminish N ok (ahead before i) (ahead before' i) i h q)
+  later-no-more ok before before' i q h = omega (arith, rank-same (ahead before' i adding i), rank-same (ahead before' i), gains-diminish N ok (ahead before i) (ahead before' i) i h q)
 
 -- ---- of books
 
@@ -100,7 +99,7 @@ module _ (B : Book) (bids : List ℤ) (i : ℕ) (l : i < B .n) (ok : Sound B) (o
       sizes (λ j r. ap (λ (z : ℤ). natAbs z - 1) (d .pools j r)) sides
       (network-sound B ok) (before B) (before (rebid B bids)) i (before-strict-total (rebid B bids) ok' .irreflexive i l) before-kept
 
-  pub used-rebid : (a : ℕ → ℕ) → used (rebid B bids) a i ≡ used B a i
+  used-rebid : (a : ℕ → ℕ) → used (rebid B bids) a i ≡ used B a i
   unfolding used
   used-rebid a = ap₂ (λ (t : Bool) (u : ℕ). cond (not t) (a i) (u - a i)) (sides i l) (sizes i l)
 
@@ -120,7 +119,7 @@ dearer B bids i l h k d c e b f =
       arith,
       used-no-more B bids i l ok ok' d,
       used-rebid B bids i l ok ok' d (e .accepted),
-      best-used B h c b i l,
-      best-used (rebid B bids) k e f i l,
+      best-used B ok c b i l,
+      best-used (rebid B bids) ok' e f i l,
     ) in
     sides-say (purchase B i) (c .accepted i) (e .accepted i) (size B i) (b .feasible .amounts i l) (omega (arith, f .feasible .amounts i l, sizes B bids i l ok ok' d i l)) less

@@ -7,24 +7,25 @@ use native.Mathlib.Nat.{add-zero, add-suc, eq-zero-or-pos}
 use native.Mathlib.Omega.{arith}
 use native.Mathlib.Decide.{decLt, ℕ-discrete}
 use lib.Dec.{eqb, ltb}
+use borrow.Author.Tests.{lt-ltb, le-ltb}
 use Rattle.definitions.specs.Arithmetic.{on}
 use Rattle.laws.specs.Extremes.{minTo, min-le-start, min-le-at, min-attained}
 use Rattle.laws.specs.Sum.{sum-ext, sum-le, sum-add, sum-zero, sum-one, sum-le-at}
 use Rattle.laws.specs.Tests.{Eq?, same, diff, eq?, Lt?, less, more, lt?}
-use Rattle.theory.specs.Subsets.{LooksBelow, bit, mask, mask-lt, mask-bit}
-use Rattle.theory.specs.Network.{Network, SoundNetwork, demand, leaving, entering, cut, amountIn, _∪_, _∩_, lines-submodular-at, demand-modular, demand-ext, leaving-ext}
+use Rattle.theory.specs.Subsets.{LooksBelow, member, mask, mask-lt, mask-member}
+use Rattle.theory.specs.Network.{goesOut, comesIn, Network, SoundNetwork, demand, leaving, entering, cut, amountIn, _∪_, _∩_, lines-submodular-at, demand-modular, demand-ext, leaving-ext}
 use Rattle.theory.specs.Balance.{only, others, all, arriving, departing, FeasibleUse, net, cut-balance}
-use Rattle.theory.specs.Choices.{on-monotone, on-not}
+use Rattle.theory.specs.Choices.{on-monotone, on-not, on-zero}
 
 -- what is left of line j: the least of its capacity and the slacks of the sets that it leaves
 unfoldable pub restOf : Network → ((ℕ → Bool) → ℕ) → ℕ → ℕ
-restOf N sl j = minTo (N .capacity j) (2 ^ N .pools) (λ s. cond (bit s (N .source j) && not (bit s (N .target j))) (sl (bit s)) (N .capacity j))
+restOf N sl j = minTo (N .capacity j) (2 ^ N .pools) (λ s. cond (goesOut N (member s) j) (sl (member s)) (N .capacity j))
 
 unfoldable pub slack : Network → (ℕ → ℕ) → ℕ → (ℕ → Bool) → ℕ
 slack N x zero S = cut N S - amountIn N x S
 slack N x (suc k) S =
-    slack N x k S - on (S (N .source k) && not (S (N .target k))) (restOf N (slack N x k) k)
-    - on (not (S (N .source k)) && S (N .target k)) (N .capacity k - restOf N (slack N x k) k)
+    slack N x k S - on (goesOut N S k) (restOf N (slack N x k) k)
+    - on (comesIn N S k) (N .capacity k - restOf N (slack N x k) k)
 
 unfoldable pub rest : Network → (ℕ → ℕ) → ℕ → ℕ
 rest N x k = restOf N (slack N x k) k
@@ -33,7 +34,7 @@ unfoldable pub lineFlow : Network → (ℕ → ℕ) → ℕ → ℕ
 lineFlow N x k = N .capacity k - rest N x k
 
 -- the laws of restOf
-pub rest-within : (N : Network) (sl : (ℕ → Bool) → ℕ) (j : ℕ) → restOf N sl j ≤ N .capacity j
+rest-within : (N : Network) (sl : (ℕ → Bool) → ℕ) (j : ℕ) → restOf N sl j ≤ N .capacity j
 unfolding restOf
 rest-within N sl j = min-le-start _ _ _
 
@@ -41,26 +42,30 @@ rest-le : (N : Network) → SoundNetwork N → (sl : (ℕ → Bool) → ℕ) →
 unfolding restOf
 rest-le N k sl e j l S p q =
     let s = mask (N .pools) S in
-    let a = min-le-at (N .capacity j) (2 ^ N .pools) (λ s. cond (bit s (N .source j) && not (bit s (N .target j))) (sl (bit s)) (N .capacity j)) s (mask-lt (N .pools) S) in
-    let a' = rw (mask-bit (N .pools) S (N .source j) (k .source-below j l), mask-bit (N .pools) S (N .target j) (k .target-below j l), p, q) at a in
-    omega (arith, a', e (bit s) S (mask-bit (N .pools) S))
+    let a = min-le-at (N .capacity j) (2 ^ N .pools) (λ s. cond (goesOut N (member s) j) (sl (member s)) (N .capacity j)) s (mask-lt (N .pools) S) in
+    let a' = rw (mask-member (N .pools) S (N .source j) (k .source-below j l), mask-member (N .pools) S (N .target j) (k .target-below j l), p, q) at a in
+    omega (arith, a', e (member s) S (mask-member (N .pools) S))
 
-pub rest-at : (N : Network) (sl : (ℕ → Bool) → ℕ) (j : ℕ)
-    → (restOf N sl j ≡ N .capacity j) ⊎ ((s : ℕ) × (bit s (N .source j) ≡ true) × (bit s (N .target j) ≡ false) × (restOf N sl j ≡ sl (bit s)))
+-- set s, which line j leaves, has no more slack than is left of the line
+abbrev Binds : (N : Network) (sl : (ℕ → Bool) → ℕ) (j : ℕ) → Type 0
+Binds N sl j = (s : ℕ) × (member s (N .source j) ≡ true) × (member s (N .target j) ≡ false) × (restOf N sl j ≡ sl (member s))
+
+rest-at : (N : Network) (sl : (ℕ → Bool) → ℕ) (j : ℕ)
+    → (restOf N sl j ≡ N .capacity j) ⊎ Binds N sl j
 unfolding restOf
-rest-at N sl j = go (min-attained (N .capacity j) (2 ^ N .pools) (λ s. cond (bit s (N .source j) && not (bit s (N .target j))) (sl (bit s)) (N .capacity j)))
+rest-at N sl j = go (min-attained (N .capacity j) (2 ^ N .pools) (λ s. cond (goesOut N (member s) j) (sl (member s)) (N .capacity j)))
   where
-    pick : (s : ℕ) (y z : Bool) → bit s (N .source j) ≡ y → bit s (N .target j) ≡ z → restOf N sl j ≡ cond (y && not z) (sl (bit s)) (N .capacity j)
-        → (restOf N sl j ≡ N .capacity j) ⊎ ((s : ℕ) × (bit s (N .source j) ≡ true) × (bit s (N .target j) ≡ false) × (restOf N sl j ≡ sl (bit s)))
+    pick : (s : ℕ) (y z : Bool) → member s (N .source j) ≡ y → member s (N .target j) ≡ z → restOf N sl j ≡ cond (y && not z) (sl (member s)) (N .capacity j)
+        → (restOf N sl j ≡ N .capacity j) ⊎ Binds N sl j
     pick s true false p q e = inr (s, p, q, e)
     pick s true true p q e = inl e
     pick s false true p q e = inl e
     pick s false false p q e = inl e
 
-    go : (restOf N sl j ≡ N .capacity j) ⊎ ((s : ℕ) × (s < 2 ^ N .pools) × (restOf N sl j ≡ cond (bit s (N .source j) && not (bit s (N .target j))) (sl (bit s)) (N .capacity j)))
-        → (restOf N sl j ≡ N .capacity j) ⊎ ((s : ℕ) × (bit s (N .source j) ≡ true) × (bit s (N .target j) ≡ false) × (restOf N sl j ≡ sl (bit s)))
+    go : (restOf N sl j ≡ N .capacity j) ⊎ ((s : ℕ) × (s < 2 ^ N .pools) × (restOf N sl j ≡ cond (goesOut N (member s) j) (sl (member s)) (N .capacity j)))
+        → (restOf N sl j ≡ N .capacity j) ⊎ Binds N sl j
     go (inl p) = inl p
-    go (inr p) = pick (p .0) (bit (p .0) (N .source j)) (bit (p .0) (N .target j)) refl refl (p .2)
+    go (inr p) = pick (p .0) (member (p .0) (N .source j)) (member (p .0) (N .target j)) refl refl (p .2)
 
 -- after k lines: the least and the greatest flow of line j that are still open
 unfoldable pub low : Network → (ℕ → ℕ) → ℕ → ℕ → ℕ
@@ -95,7 +100,24 @@ lift-one false true a c r h = refl
 lift-one false false a c r h = refl
 
 module _ (N : Network) (x : ℕ → ℕ) where
-  pub flow-rest : (j : ℕ) → lineFlow N x j + rest N x j ≡ N .capacity j
+  -- a line that is fixed, and one that is not
+  low-fixed : (k j : ℕ) → j < k → low N x k j ≡ lineFlow N x j
+  unfolding low
+  low-fixed k j l = rw (lt-ltb j k l) refl
+
+  low-open : (k j : ℕ) → k ≤ j → low N x k j ≡ 0
+  unfolding low
+  low-open k j l = rw (le-ltb j k l) refl
+
+  high-fixed : (k j : ℕ) → j < k → high N x k j ≡ lineFlow N x j
+  unfolding high
+  high-fixed k j l = rw (lt-ltb j k l) refl
+
+  high-open : (k j : ℕ) → k ≤ j → high N x k j ≡ N .capacity j
+  unfolding high
+  high-open k j l = rw (le-ltb j k l) refl
+
+  flow-rest : (j : ℕ) → lineFlow N x j + rest N x j ≡ N .capacity j
   unfolding lineFlow rest
   flow-rest j = omega (arith, rest-within N (slack N x j) j)
 
@@ -107,21 +129,21 @@ module _ (N : Network) (x : ℕ → ℕ) where
       go true = omega arith
       go false = omega arith
 
-  high-step : (k : ℕ) → k < N .lines → (S : ℕ → Bool) → leaving N (high N x k) S ≡ leaving N (high N x (suc k)) S + on (S (N .source k) && not (S (N .target k))) (rest N x k)
+  high-step : (k : ℕ) → k < N .lines → (S : ℕ → Bool) → leaving N (high N x k) S ≡ leaving N (high N x (suc k)) S + on (goesOut N S k) (rest N x k)
   unfolding leaving high
   high-step k l S =
-      sum-ext (N .lines) _ _ (λ j r. lift-one (S (N .source j) && not (S (N .target j))) (eqb j k) _ _ (rest N x j)
+      sum-ext (N .lines) _ _ (λ j r. lift-one (goesOut N S j) (eqb j k) _ _ (rest N x j)
       (high-one j k (lineFlow N x j) (rest N x j) (N .capacity j) (lt? j k) (lt? j (suc k)) (eq? j k) (flow-rest j)))
       ∙ sum-add (N .lines) _ _
-      ∙ ap (λ (z : ℕ). leaving N (high N x (suc k)) S + z) (sum-one (N .lines) k (λ j. on (S (N .source j) && not (S (N .target j))) (rest N x j)) l)
+      ∙ ap (λ (z : ℕ). leaving N (high N x (suc k)) S + z) (sum-one (N .lines) k (λ j. on (goesOut N S j) (rest N x j)) l)
 
-  low-step : (k : ℕ) → k < N .lines → (S : ℕ → Bool) → entering N (low N x (suc k)) S ≡ entering N (low N x k) S + on (not (S (N .source k)) && S (N .target k)) (lineFlow N x k)
+  low-step : (k : ℕ) → k < N .lines → (S : ℕ → Bool) → entering N (low N x (suc k)) S ≡ entering N (low N x k) S + on (comesIn N S k) (lineFlow N x k)
   unfolding entering low
   low-step k l S =
-      sum-ext (N .lines) _ _ (λ j r. lift-one (not (S (N .source j)) && S (N .target j)) (eqb j k) _ _ (lineFlow N x j)
+      sum-ext (N .lines) _ _ (λ j r. lift-one (comesIn N S j) (eqb j k) _ _ (lineFlow N x j)
       (low-one j k (lineFlow N x j) (lt? j k) (lt? j (suc k)) (eq? j k)))
       ∙ sum-add (N .lines) _ _
-      ∙ ap (λ (z : ℕ). entering N (low N x k) S + z) (sum-one (N .lines) k (λ j. on (not (S (N .source j)) && S (N .target j)) (lineFlow N x j)) l)
+      ∙ ap (λ (z : ℕ). entering N (low N x k) S + z) (sum-one (N .lines) k (λ j. on (comesIn N S j) (lineFlow N x j)) l)
 
 -- the invariant
 abbrev pub SlackBalance : Network → (ℕ → ℕ) → ℕ → Type 0
@@ -148,24 +170,6 @@ entering-ext : (N : Network) (c : ℕ → ℕ) → SoundNetwork N → LooksBelow
 unfolding entering
 entering-ext N c k P Q e = sum-ext _ _ _ (λ j l. ap₂ (λ (y z : Bool). on (not y && z) (c j)) (e (N .source j) (k .source-below j l)) (e (N .target j) (k .target-below j l)))
 
-low-zero-one : (l : Bool) (j f : ℕ) {t : Bool} → Lt? j 0 t → on l (on t f) ≡ 0
-low-zero-one l j f (less p) = absurd (omega arith)
-low-zero-one true j f (more p) = refl
-low-zero-one false j f (more p) = refl
-
-high-zero-one : (j f c : ℕ) {t : Bool} → Lt? j 0 t → cond t f c ≡ c
-high-zero-one j f c (less p) = absurd (omega arith)
-high-zero-one j f c (more p) = refl
-
--- at line k itself, before it is fixed
-low-here-one : (k f : ℕ) {t : Bool} → Lt? k k t → on t f ≡ 0
-low-here-one k f (less p) = absurd (omega arith)
-low-here-one k f (more p) = refl
-
-high-here-one : (k f c : ℕ) {t : Bool} → Lt? k k t → cond t f c ≡ c
-high-here-one k f c (less p) = absurd (omega arith)
-high-here-one k f c (more p) = refl
-
 pub step-one : (s t : Bool) (sl r f : ℕ) → (s ≡ true → t ≡ false → r ≤ sl) → (s ≡ false → t ≡ true → f ≤ sl)
     → sl - on (s && not t) r - on (not s && t) f + on (s && not t) r + on (not s && t) f ≡ sl
 step-one true true sl r f h q = omega arith
@@ -174,23 +178,15 @@ step-one false true sl r f h q = omega (arith, q refl refl)
 step-one false false sl r f h q = omega arith
 
 module _ (N : Network) (ok : SoundNetwork N) (x : ℕ → ℕ) where
-  low-here : (k : ℕ) → low N x k k ≡ 0
-  unfolding low
-  low-here k = low-here-one k (lineFlow N x k) (lt? k k)
-
-  high-here : (k : ℕ) → high N x k k ≡ N .capacity k
-  unfolding high
-  high-here k = high-here-one k (lineFlow N x k) (N .capacity k) (lt? k k)
-
   balance-first : ((S : ℕ → Bool) → amountIn N x S ≤ cut N S) → SlackBalance N x 0
-  unfolding slack cut entering leaving low high
+  unfolding slack cut entering leaving
   balance-first h S =
       omega (
         arith,
         h S,
-        sum-ext (N .lines) _ _ (λ j l. low-zero-one (not (S (N .source j)) && S (N .target j)) j (lineFlow N x j) (lt? j 0)),
+        sum-ext (N .lines) (λ j. on (comesIn N S j) (low N x 0 j)) (λ j. 0) (λ j l. ap (on (comesIn N S j)) (low-open N x 0 j (omega arith)) ∙ on-zero (comesIn N S j)),
         sum-zero (N .lines),
-        sum-ext (N .lines) _ _ (λ j l. ap (on (S (N .source j) && not (S (N .target j)))) (high-zero-one j (lineFlow N x j) (N .capacity j) (lt? j 0))),
+        sum-ext (N .lines) (λ j. on (goesOut N S j) (high N x 0 j)) (λ j. on (goesOut N S j) (N .capacity j)) (λ j l. ap (on (goesOut N S j)) (high-open N x 0 j (omega arith))),
       )
 
   slack-ext : (k : ℕ) → SlackBalance N x k → LooksBelow (N .pools) (slack N x k)
@@ -206,11 +202,11 @@ module _ (N : Network) (ok : SoundNetwork N) (x : ℕ → ℕ) where
   unfolding lineFlow rest
   flow-enters k h l R p q = go (rest-at N (slack N x k) k)
     where
-      go : (restOf N (slack N x k) k ≡ N .capacity k) ⊎ ((s : ℕ) × (bit s (N .source k) ≡ true) × (bit s (N .target k) ≡ false) × (restOf N (slack N x k) k ≡ slack N x k (bit s)))
+      go : (restOf N (slack N x k) k ≡ N .capacity k) ⊎ Binds N (slack N x k) k
           → N .capacity k - restOf N (slack N x k) k ≤ slack N x k R
       go (inl e) = omega arith
       go (inr e) =
-          let S = bit (e .0) in
+          let S = member (e .0) in
           omega (
             arith,
             e .3,
@@ -220,7 +216,7 @@ module _ (N : Network) (ok : SoundNetwork N) (x : ℕ → ℕ) where
             h (S ∩ R),
             demand-modular N S R,
             amountIn-modular N x S R,
-            lines-submodular-at N (low N x k) (high N x k) S R k (N .capacity k) l (omega (arith, low-here k, high-here k)) (e .1) (e .2) p q (λ j r. low-le-high N x k j),
+            lines-submodular-at N (low N x k) (high N x k) S R k (N .capacity k) l (omega (arith, low-open N x k k (omega arith), high-open N x k k (omega arith))) (e .1) (e .2) p q (λ j r. low-le-high N x k j),
           )
 
   balance-next : (k : ℕ) → k < N .lines → SlackBalance N x k → SlackBalance N x (suc k)
@@ -234,7 +230,7 @@ module _ (N : Network) (ok : SoundNetwork N) (x : ℕ → ℕ) where
         step-one (S (N .source k)) (S (N .target k)) (slack N x k S) (rest N x k) (lineFlow N x k) (rest-leaves k h l S) (flow-enters k h l S),
       )
 
-  pub balance-after : ((S : ℕ → Bool) → amountIn N x S ≤ cut N S) → (k : ℕ) → k ≤ N .lines → SlackBalance N x k
+  balance-after : ((S : ℕ → Bool) → amountIn N x S ≤ cut N S) → (k : ℕ) → k ≤ N .lines → SlackBalance N x k
   balance-after c zero l = balance-first c
   balance-after c (suc k) l = balance-next k l (balance-after c k (omega arith))
 
@@ -273,14 +269,6 @@ demand-others : (N : Network) (S : ℕ → Bool) → demand N S + demand N (othe
 unfolding demand
 demand-others N S = sym (sum-add (N .bids) _ _) ∙ sum-ext _ _ _ (λ i l. demand-others-one (S (N .pool i)) (N .purchase i) (N .size i))
 
-low-end-one : (j k f : ℕ) {t : Bool} → Lt? j k t → j < k → on t f ≡ f
-low-end-one j k f (less p) l = refl
-low-end-one j k f (more p) l = absurd (omega arith)
-
-high-end-one : (j k f c : ℕ) {t : Bool} → Lt? j k t → j < k → cond t f c ≡ f
-high-end-one j k f c (less p) l = refl
-high-end-one j k f c (more p) l = absurd (omega arith)
-
 pub record WithinCuts (N : Network) (x : ℕ → ℕ) : Type 0 where
   pub ok : SoundNetwork N
   pub sizes : (i : ℕ) → i < N .bids → x i ≤ N .size i
@@ -289,21 +277,21 @@ pub record WithinCuts (N : Network) (x : ℕ → ℕ) : Type 0 where
 
 module _ (N : Network) (x : ℕ → ℕ) (given : WithinCuts N x) where
   high-end : (S : ℕ → Bool) → leaving N (high N x (N .lines)) S ≡ leaving N (lineFlow N x) S
-  unfolding leaving high
-  high-end S = sum-ext _ _ _ (λ j l. ap (on (S (N .source j) && not (S (N .target j)))) (high-end-one j (N .lines) (lineFlow N x j) (N .capacity j) (lt? j (N .lines)) l))
+  unfolding leaving
+  high-end S = sum-ext _ _ _ (λ j l. ap (on (goesOut N S j)) (high-fixed N x (N .lines) j l))
 
   low-end : (S : ℕ → Bool) → entering N (low N x (N .lines)) S ≡ entering N (lineFlow N x) S
-  unfolding entering low
-  low-end S = sum-ext _ _ _ (λ j l. ap (on (not (S (N .source j)) && S (N .target j))) (low-end-one j (N .lines) (lineFlow N x j) (lt? j (N .lines)) l))
+  unfolding entering
+  low-end S = sum-ext _ _ _ (λ j l. ap (on (comesIn N S j)) (low-fixed N x (N .lines) j l))
 
   balance-end : (S : ℕ → Bool) → slack N x (N .lines) S + amountIn N x S + entering N (lineFlow N x) S ≡ demand N S + leaving N (lineFlow N x) S
   balance-end S = omega (arith, balance-after N (given .ok) x (given .cuts) (N .lines) (omega arith) S, high-end S, low-end S)
 
-  pub slack-end : (S : ℕ → Bool) → slack N x (N .lines) S ≡ 0
+  slack-end : (S : ℕ → Bool) → slack N x (N .lines) S ≡ 0
   slack-end S =
       omega (arith, balance-end S, balance-end (others S), entering-leaving N (lineFlow N x) S, leaving-entering N (lineFlow N x) S, amountIn-others N x S, demand-others N S, given .whole)
 
-  pub flow-balance : (S : ℕ → Bool) → amountIn N x S + arriving N (lineFlow N x) S ≡ demand N S + departing N (lineFlow N x) S
+  flow-balance : (S : ℕ → Bool) → amountIn N x S + arriving N (lineFlow N x) S ≡ demand N S + departing N (lineFlow N x) S
   flow-balance S = omega (arith, balance-end S, slack-end S, net N (lineFlow N x) S)
 
   flow-within : (j : ℕ) → lineFlow N x j ≤ N .capacity j
@@ -320,35 +308,35 @@ module _ (N : Network) (x : ℕ → ℕ) (given : WithinCuts N x) where
   unfolding slack
   slack-step k S = omega arith
 
-  pub slack-down : (k d : ℕ) (S : ℕ → Bool) → slack N x (k + d) S ≤ slack N x k S
+  slack-down : (k d : ℕ) (S : ℕ → Bool) → slack N x (k + d) S ≤ slack N x k S
   slack-down k zero S = rw add-zero (omega arith)
   slack-down k (suc d) S = rw add-suc (omega (arith, slack-down k d S, slack-step (k + d) S))
 
   -- a line that carries something leaves a set without slack
-  tight : (j : ℕ) → 0 < lineFlow N x j → (s : ℕ) × (bit s (N .source j) ≡ true) × (bit s (N .target j) ≡ false) × (slack N x (suc j) (bit s) ≡ 0)
+  tight : (j : ℕ) → 0 < lineFlow N x j → (s : ℕ) × (member s (N .source j) ≡ true) × (member s (N .target j) ≡ false) × (slack N x (suc j) (member s) ≡ 0)
   unfolding lineFlow rest slack
   tight j h = go (rest-at N (slack N x j) j)
     where
-      go : (restOf N (slack N x j) j ≡ N .capacity j) ⊎ ((s : ℕ) × (bit s (N .source j) ≡ true) × (bit s (N .target j) ≡ false) × (restOf N (slack N x j) j ≡ slack N x j (bit s)))
-          → (s : ℕ) × (bit s (N .source j) ≡ true) × (bit s (N .target j) ≡ false) × (slack N x (suc j) (bit s) ≡ 0)
+      go : (restOf N (slack N x j) j ≡ N .capacity j) ⊎ Binds N (slack N x j) j
+          → (s : ℕ) × (member s (N .source j) ≡ true) × (member s (N .target j) ≡ false) × (slack N x (suc j) (member s) ≡ 0)
       go (inl e) = absurd (omega arith)
       go (inr e) = (e .0, e .1, e .2, rw (e .1, e .2) (omega (arith, e .3)))
 
   -- never both ways
-  pub one-way : (j k : ℕ) → j < k → k < N .lines → N .source k ≡ N .target j → N .target k ≡ N .source j → 0 < lineFlow N x j → lineFlow N x k ≡ 0
+  one-way : (j k : ℕ) → j < k → k < N .lines → N .source k ≡ N .target j → N .target k ≡ N .source j → 0 < lineFlow N x j → lineFlow N x k ≡ 0
   one-way j k l r p q h =
       let t = tight j h in
-      let S = bit (t .0) in
+      let S = member (t .0) in
       let e : suc j + (k - suc j) ≡ k = omega arith in
       let d = subst (λ (z : ℕ). slack N x z S ≤ slack N x (suc j) S) e (slack-down (suc j) (k - suc j) S) in
       omega (arith, t .3, d, flow-enters N (given .ok) x k (slack-balance k (omega arith)) r S (ap S p ∙ t .2) (ap S q ∙ t .1))
 
-  pub no-loop : (k : ℕ) → N .source k ≡ N .target k → lineFlow N x k ≡ 0
+  no-loop : (k : ℕ) → N .source k ≡ N .target k → lineFlow N x k ≡ 0
   no-loop k e = go (eq-zero-or-pos (lineFlow N x k))
     where
       go : (lineFlow N x k ≡ 0) ⊎ (0 < lineFlow N x k) → lineFlow N x k ≡ 0
       go (inl p) = p
-      go (inr p) = let t = tight k p in absurd (true≢false (sym (t .1) ∙ ap (bit (t .0)) e ∙ t .2))
+      go (inr p) = let t = tight k p in absurd (true≢false (sym (t .1) ∙ ap (member (t .0)) e ∙ t .2))
 
   pub never-both : (j k : ℕ) → j < N .lines → k < N .lines → N .source k ≡ N .target j → N .target k ≡ N .source j → 0 < lineFlow N x j → lineFlow N x k ≡ 0
   never-both j k l r p q h = go (ℕ-discrete j k) (decLt j k) (eq-zero-or-pos (lineFlow N x k))
@@ -360,29 +348,35 @@ module _ (N : Network) (x : ℕ → ℕ) (given : WithinCuts N x) where
       go (no d) (no e) (inr z) = absurd (omega (arith, one-way k j (omega arith) l (sym q) (sym p) z))
 
   -- the first flows in dictionary order, by lines
-  under-high : (k j f : ℕ) {t : Bool} → Lt? j k t → (j < k → f ≡ lineFlow N x j) → f ≤ N .capacity j → f ≤ cond t (lineFlow N x j) (N .capacity j)
-  under-high k j f (less p) e c = omega (arith, e p)
-  under-high k j f (more p) e c = c
+  under-high : (k j f : ℕ) → (j < k → f ≡ lineFlow N x j) → f ≤ N .capacity j → f ≤ high N x k j
+  under-high k j f e c = go (decLt j k)
+    where
+      go : Dec (j < k) → f ≤ high N x k j
+      go (yes l) = omega (arith, e l, high-fixed N x k j l)
+      go (no l) = omega (arith, high-open N x k j (omega arith))
 
-  over-low : (k j f : ℕ) {t : Bool} → Lt? j k t → (j < k → f ≡ lineFlow N x j) → on t (lineFlow N x j) ≤ f
-  over-low k j f (less p) e = omega (arith, e p)
-  over-low k j f (more p) e = omega arith
+  over-low : (k j f : ℕ) → (j < k → f ≡ lineFlow N x j) → low N x k j ≤ f
+  over-low k j f e = go (decLt j k)
+    where
+      go : Dec (j < k) → low N x k j ≤ f
+      go (yes l) = omega (arith, e l, low-fixed N x k j l)
+      go (no l) = omega (arith, low-open N x k j (omega arith))
 
   pub flow-first : (f : ℕ → ℕ) → FeasibleUse N x f → (k : ℕ) → k < N .lines → ((j : ℕ) → j < k → f j ≡ lineFlow N x j) → lineFlow N x k ≤ f k
-  unfolding lineFlow rest leaving entering low high
+  unfolding lineFlow rest leaving entering
   flow-first f c k l e = go (rest-at N (slack N x k) k)
     where
       open-out : (S : ℕ → Bool) → S (N .source k) ≡ true → S (N .target k) ≡ false → leaving N f S + (N .capacity k - f k) ≤ leaving N (high N x k) S
       open-out S p q =
-          sum-le-at (N .lines) _ _ (N .capacity k - f k) k l (rw (p, q) (omega (arith, high-here N (given .ok) x k, c .capacities k l)))
-          (λ j r. on-monotone (S (N .source j) && not (S (N .target j))) _ _ (under-high k j (f j) (lt? j k) (e j) (c .capacities j r)))
+          sum-le-at (N .lines) _ _ (N .capacity k - f k) k l (rw (p, q) (omega (arith, high-open N x k k (omega arith), c .capacities k l)))
+          (λ j r. on-monotone (goesOut N S j) _ _ (under-high k j (f j) (e j) (c .capacities j r)))
 
       open-in : (S : ℕ → Bool) → entering N (low N x k) S ≤ entering N f S
-      open-in S = sum-le (N .lines) _ _ (λ j r. on-monotone (not (S (N .source j)) && S (N .target j)) _ _ (over-low k j (f j) (lt? j k) (e j)))
+      open-in S = sum-le (N .lines) _ _ (λ j r. on-monotone (comesIn N S j) _ _ (over-low k j (f j) (e j)))
 
-      go : (restOf N (slack N x k) k ≡ N .capacity k) ⊎ ((s : ℕ) × (bit s (N .source k) ≡ true) × (bit s (N .target k) ≡ false) × (restOf N (slack N x k) k ≡ slack N x k (bit s)))
+      go : (restOf N (slack N x k) k ≡ N .capacity k) ⊎ Binds N (slack N x k) k
           → N .capacity k - restOf N (slack N x k) k ≤ f k
       go (inl t) = omega arith
       go (inr t) =
-          let S = bit (t .0) in
+          let S = member (t .0) in
           omega (arith, t .3, slack-balance k (omega arith) S, cut-balance N (given .ok) x f c S, open-out S (t .1) (t .2), open-in S)

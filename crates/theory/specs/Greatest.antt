@@ -9,12 +9,12 @@ use borrow.Author.Tests.{lt-ltb}
 use Rattle.definitions.specs.Arithmetic.{on}
 use Rattle.laws.specs.Sum.{sum-ext, sum-add, sum-zero, sum-one}
 use Rattle.laws.specs.Tests.{Eq?, same, diff, eq?, Lt?, less, more, lt?}
-use Rattle.theory.specs.Subsets.{bit}
-use Rattle.theory.specs.Network.{Network, SoundNetwork, demand, cut, amountIn}
-use Rattle.theory.specs.Rank.{total, rank, cost, outside, _with-bid_, rank-le, rank-monotone, rank-ext, rank-one-more, rank-none, rank-all, rank-bound, gains-diminish}
+use Rattle.theory.specs.Subsets.{member}
+use Rattle.theory.specs.Network.{Network, SoundNetwork, demand, cut, amountIn, _adding_}
+use Rattle.theory.specs.Rank.{total, rank, cost, outside, rank-le, rank-monotone, rank-ext, rank-one-more, rank-none, rank-all, rank-bound, gains-diminish}
 use Rattle.theory.specs.Balance.{all, FeasibleUse, cut-bound}
 use Rattle.theory.specs.Flows.{WithinCuts}
-use Rattle.theory.specs.Choices.{iff}
+use Rattle.theory.specs.Choices.{iff, and-made}
 use Rattle.theory.specs.StrictOrder.{StrictTotal, place, place-le, place-lt, place-before, place-inj, find}
 
 abbrev pub ahead : (ℕ → ℕ → Bool) → ℕ → ℕ → Bool
@@ -22,32 +22,28 @@ ahead before i = λ j. before j i
 
 -- the best clearing's used amount of bid i
 unfoldable pub bestUsed : Network → (ℕ → ℕ → Bool) → ℕ → ℕ
-bestUsed N before i = rank N (ahead before i with-bid i) - rank N (ahead before i)
+bestUsed N before i = rank N (ahead before i adding i) - rank N (ahead before i)
 
 -- totals
-pub total-ext : (N : Network) (v : ℕ → ℕ) (A B : ℕ → Bool) → ((i : ℕ) → i < N .bids → A i ≡ B i) → total N v A ≡ total N v B
+total-ext : (N : Network) (v : ℕ → ℕ) (A B : ℕ → Bool) → ((i : ℕ) → i < N .bids → A i ≡ B i) → total N v A ≡ total N v B
 unfolding total
 total-ext N v A B h = sum-ext _ _ _ (λ i l. ap (λ (z : Bool). on z (v i)) (h i l))
 
-with-bid-one : (x : Bool) (j i v : ℕ) {t : Bool} → Eq? j i t → (j ≡ i → x ≡ false) → on (x || t) v ≡ on x v + on t v
-with-bid-one true j i v (same p) h = absurd (true≢false (h p))
-with-bid-one false j i v (same p) h = omega arith
-with-bid-one true j i v (diff p) h = omega arith
-with-bid-one false j i v (diff p) h = omega arith
+adding-one : (x : Bool) (j i v : ℕ) {t : Bool} → Eq? j i t → (j ≡ i → x ≡ false) → on (x || t) v ≡ on x v + on t v
+adding-one true j i v (same p) h = absurd (true≢false (h p))
+adding-one false j i v (same p) h = omega arith
+adding-one true j i v (diff p) h = omega arith
+adding-one false j i v (diff p) h = omega arith
 
-pub total-with : (N : Network) (v : ℕ → ℕ) (B : ℕ → Bool) (i : ℕ) → i < N .bids → B i ≡ false → total N v (B with-bid i) ≡ total N v B + v i
+total-with : (N : Network) (v : ℕ → ℕ) (B : ℕ → Bool) (i : ℕ) → i < N .bids → B i ≡ false → total N v (B adding i) ≡ total N v B + v i
 unfolding total
 total-with N v B i l h =
     omega (
       arith,
-      sum-ext (N .bids) (λ j. on (B j || eqb j i) (v j)) (λ j. on (B j) (v j) + on (eqb j i) (v j)) (λ j r. with-bid-one (B j) j i (v j) (eq? j i) (λ e. ap B e ∙ h)),
+      sum-ext (N .bids) (λ j. on (B j || eqb j i) (v j)) (λ j. on (B j) (v j) + on (eqb j i) (v j)) (λ j r. adding-one (B j) j i (v j) (eq? j i) (λ e. ap B e ∙ h)),
       sum-add (N .bids) (λ j. on (B j) (v j)) (λ j. on (eqb j i) (v j)),
       sum-one (N .bids) i v l,
     )
-
--- the bids of B at the first k places
-abbrev pub firstPlaces : ℕ → (ℕ → ℕ → Bool) → (ℕ → Bool) → ℕ → ℕ → Bool
-firstPlaces n before B k = λ i. B i && ltb (place n before i) k
 
 places-skip : (x : Bool) (p k : ℕ) {t t' : Bool} → Lt? p k t → Lt? p (suc k) t' → (x ≡ true → p ≢ k) → (x && t') ≡ (x && t)
 places-skip false p k a c h = refl
@@ -82,121 +78,120 @@ places-below true p k (more l) e = absurd (true≢false (sym e))
 places-below false p k (more l) e = absurd (true≢false (sym e))
 
 module _ (N : Network) (ok : SoundNetwork N) (before : ℕ → ℕ → Bool) (o : StrictTotal (N .bids) before) where
-  pub gain : (i : ℕ) → bestUsed N before i + rank N (ahead before i) ≡ rank N (ahead before i with-bid i)
-  unfolding bestUsed
-  gain i = omega (arith, rank-monotone N ok (ahead before i) (ahead before i with-bid i) (λ j l e. ap (λ (z : Bool). z || eqb j i) e))
+  abbrev placeOf : ℕ → ℕ
+  placeOf i = place (N .bids) before i
 
-  pub best-size : (i : ℕ) → i < N .bids → bestUsed N before i ≤ N .size i
+  -- the bids of B at the first k places
+  abbrev firstPlaces : (ℕ → Bool) → ℕ → ℕ → Bool
+  firstPlaces B k = λ i. B i && ltb (placeOf i) k
+
+  pub gain : (i : ℕ) → bestUsed N before i + rank N (ahead before i) ≡ rank N (ahead before i adding i)
+  unfolding bestUsed
+  gain i = omega (arith, rank-monotone N ok (ahead before i) (ahead before i adding i) (λ j l e. ap (λ (z : Bool). z || eqb j i) e))
+
+  best-size : (i : ℕ) → i < N .bids → bestUsed N before i ≤ N .size i
   best-size i l = omega (arith, gain i, rank-one-more N ok (ahead before i) i l)
 
   -- one more place: no bid of B is there, or one
-  step-view : (B : ℕ → Bool) (k : ℕ)
-      → ((j : ℕ) → j < N .bids → firstPlaces (N .bids) before B (suc k) j ≡ firstPlaces (N .bids) before B k j)
-      ⊎ ((i : ℕ) × (i < N .bids) × (B i ≡ true) × (place (N .bids) before i ≡ k) × ((j : ℕ) → j < N .bids → firstPlaces (N .bids) before B (suc k) j ≡ (firstPlaces (N .bids) before B k with-bid i) j))
-  step-view B k = go (find (N .bids) (place (N .bids) before) k)
-    where
-      Goal : Type 0
-      Goal = ((j : ℕ) → j < N .bids → firstPlaces (N .bids) before B (suc k) j ≡ firstPlaces (N .bids) before B k j)
-          ⊎ ((i : ℕ) × (i < N .bids) × (B i ≡ true) × (place (N .bids) before i ≡ k) × ((j : ℕ) → j < N .bids → firstPlaces (N .bids) before B (suc k) j ≡ (firstPlaces (N .bids) before B k with-bid i) j))
+  abbrev NextPlace : (ℕ → Bool) → ℕ → Type 0
+  NextPlace B k =
+      ((j : ℕ) → j < N .bids → firstPlaces B (suc k) j ≡ firstPlaces B k j)
+      ⊎ ((i : ℕ) × (i < N .bids) × (B i ≡ true) × (placeOf i ≡ k) × ((j : ℕ) → j < N .bids → firstPlaces B (suc k) j ≡ (firstPlaces B k adding i) j))
 
-      at : (i : ℕ) → i < N .bids → place (N .bids) before i ≡ k → (x : Bool) → B i ≡ x → Goal
+  next-place : (B : ℕ → Bool) (k : ℕ) → NextPlace B k
+  next-place B k = go (find (N .bids) (λ i. placeOf i) k)
+    where
+      at : (i : ℕ) → i < N .bids → placeOf i ≡ k → (x : Bool) → B i ≡ x → NextPlace B k
       at i l e true h =
           inr (
             i,
             l,
             h,
             e,
-            λ j r. places-take (B j) (place (N .bids) before j) k j i (lt? (place (N .bids) before j) k) (lt? (place (N .bids) before j) (suc k)) (eq? j i)
-                (λ q. ap (place (N .bids) before) q ∙ e) (λ q. ap B q ∙ h) (λ q. place-inj (N .bids) before o j i r l (q ∙ sym e)),
+            λ j r. places-take (B j) (placeOf j) k j i (lt? (placeOf j) k) (lt? (placeOf j) (suc k)) (eq? j i)
+                (λ q. ap (λ (z : ℕ). placeOf z) q ∙ e) (λ q. ap B q ∙ h) (λ q. place-inj (N .bids) before o j i r l (q ∙ sym e)),
           )
       at i l e false h =
-          inl (λ j r. places-skip (B j) (place (N .bids) before j) k (lt? (place (N .bids) before j) k) (lt? (place (N .bids) before j) (suc k))
+          inl (λ j r. places-skip (B j) (placeOf j) k (lt? (placeOf j) k) (lt? (placeOf j) (suc k))
           (λ y q. true≢false (sym y ∙ ap B (place-inj (N .bids) before o j i r l (q ∙ sym e)) ∙ h)))
 
-      go : ((i : ℕ) × (i < N .bids) × (place (N .bids) before i ≡ k)) ⊎ ((i : ℕ) → i < N .bids → place (N .bids) before i ≢ k) → Goal
+      go : ((i : ℕ) × (i < N .bids) × (placeOf i ≡ k)) ⊎ ((i : ℕ) → i < N .bids → placeOf i ≢ k) → NextPlace B k
       go (inl h) = at (h .0) (h .1) (h .2) (B (h .0)) refl
-      go (inr h) = inl (λ j r. places-skip (B j) (place (N .bids) before j) k (lt? (place (N .bids) before j) k) (lt? (place (N .bids) before j) (suc k)) (λ y q. h j r q))
+      go (inr h) = inl (λ j r. places-skip (B j) (placeOf j) k (lt? (placeOf j) k) (lt? (placeOf j) (suc k)) (λ y q. h j r q))
 
-  none-at : (B : ℕ → Bool) (i : ℕ) → firstPlaces (N .bids) before B 0 i ≡ false
-  none-at B i = go (B i) (lt? (place (N .bids) before i) 0)
+  none-at : (B : ℕ → Bool) (i : ℕ) → firstPlaces B 0 i ≡ false
+  none-at B i = go (B i) (lt? (placeOf i) 0)
     where
-      go : (x : Bool) {t : Bool} → Lt? (place (N .bids) before i) 0 t → (x && t) ≡ false
+      go : (x : Bool) {t : Bool} → Lt? (placeOf i) 0 t → (x && t) ≡ false
       go false a = refl
       go true (less l) = absurd (omega arith)
       go true (more l) = refl
 
-  all-at : (B : ℕ → Bool) (i : ℕ) → firstPlaces (N .bids) before B (suc (N .bids)) i ≡ B i
-  all-at B i = places-end (B i) (place (N .bids) before i) (suc (N .bids)) (lt? (place (N .bids) before i) (suc (N .bids))) (omega (arith, place-le (N .bids) before o i))
+  all-at : (B : ℕ → Bool) (i : ℕ) → firstPlaces B (suc (N .bids)) i ≡ B i
+  all-at B i = places-end (B i) (placeOf i) (suc (N .bids)) (lt? (placeOf i) (suc (N .bids))) (omega (arith, place-le (N .bids) before o i))
 
   total-none : (v : ℕ → ℕ) → total N v (λ i. false) ≡ 0
   unfolding total
   total-none v = sum-zero (N .bids)
 
-  places-ahead : (B : ℕ → Bool) (k i : ℕ) → i < N .bids → place (N .bids) before i ≡ k → (j : ℕ) → j < N .bids → firstPlaces (N .bids) before B k j ≡ true → before j i ≡ true
+  places-ahead : (B : ℕ → Bool) (k i : ℕ) → i < N .bids → placeOf i ≡ k → (j : ℕ) → j < N .bids → firstPlaces B k j ≡ true → before j i ≡ true
   places-ahead B k i l e j r h =
-      place-before (N .bids) before o j i r l (omega (arith, e, places-below (B j) (place (N .bids) before j) k (lt? (place (N .bids) before j) k) h))
+      place-before (N .bids) before o j i r l (omega (arith, e, places-below (B j) (placeOf j) k (lt? (placeOf j) k) h))
 
-  places-not : (B : ℕ → Bool) (k i : ℕ) → place (N .bids) before i ≡ k → firstPlaces (N .bids) before B k i ≡ false
-  places-not B k i e = places-here (B i) (place (N .bids) before i) k (lt? (place (N .bids) before i) k) e
+  places-not : (B : ℕ → Bool) (k i : ℕ) → placeOf i ≡ k → firstPlaces B k i ≡ false
+  places-not B k i e = places-here (B i) (placeOf i) k (lt? (placeOf i) k) e
 
   -- no set of bids gets more than its rank
-  upto-le : (B : ℕ → Bool) (k : ℕ) → total N (bestUsed N before) (firstPlaces (N .bids) before B k) ≤ rank N (firstPlaces (N .bids) before B k)
+  upto-le : (B : ℕ → Bool) (k : ℕ) → total N (bestUsed N before) (firstPlaces B k) ≤ rank N (firstPlaces B k)
   upto-le B zero =
-      omega (arith, total-ext N (bestUsed N before) (firstPlaces (N .bids) before B 0) (λ i. false) (λ i l. none-at B i), total-none (bestUsed N before))
-  upto-le B (suc k) = go (step-view B k) (upto-le B k)
+      omega (arith, total-ext N (bestUsed N before) (firstPlaces B 0) (λ i. false) (λ i l. none-at B i), total-none (bestUsed N before))
+  upto-le B (suc k) = go (next-place B k) (upto-le B k)
     where
       F : ℕ → ℕ → Bool
-      F = firstPlaces (N .bids) before B
+      F = firstPlaces B
 
-      go : ((j : ℕ) → j < N .bids → F (suc k) j ≡ F k j)
-          ⊎ ((i : ℕ) × (i < N .bids) × (B i ≡ true) × (place (N .bids) before i ≡ k) × ((j : ℕ) → j < N .bids → F (suc k) j ≡ (F k with-bid i) j))
-          → total N (bestUsed N before) (F k) ≤ rank N (F k) → total N (bestUsed N before) (F (suc k)) ≤ rank N (F (suc k))
+      go : NextPlace B k → total N (bestUsed N before) (F k) ≤ rank N (F k) → total N (bestUsed N before) (F (suc k)) ≤ rank N (F (suc k))
       go (inl h) ih = omega (arith, ih, total-ext N (bestUsed N before) (F (suc k)) (F k) h, rank-ext N ok (F (suc k)) (F k) h)
       go (inr h) ih =
           let i = h .0 in
           omega (
             arith,
             ih,
-            total-ext N (bestUsed N before) (F (suc k)) (F k with-bid i) (h .4),
-            rank-ext N ok (F (suc k)) (F k with-bid i) (h .4),
+            total-ext N (bestUsed N before) (F (suc k)) (F k adding i) (h .4),
+            rank-ext N ok (F (suc k)) (F k adding i) (h .4),
             total-with N (bestUsed N before) (F k) i (h .1) (places-not B k i (h .3)),
             gain i,
             gains-diminish N ok (F k) (ahead before i) i (places-ahead B k i (h .1) (h .3)) (o .irreflexive i (h .1)),
           )
 
-  pub best-le-rank : (B : ℕ → Bool) → total N (bestUsed N before) B ≤ rank N B
+  best-le-rank : (B : ℕ → Bool) → total N (bestUsed N before) B ≤ rank N B
   best-le-rank B =
-      let F = firstPlaces (N .bids) before B (suc (N .bids)) in
+      let F = firstPlaces B (suc (N .bids)) in
       omega (arith, upto-le B (suc (N .bids)), total-ext N (bestUsed N before) F B (λ i l. all-at B i), rank-ext N ok F B (λ i l. all-at B i))
 
   -- an initial part of the merit order gets its rank
   abbrev pub Initial : (ℕ → Bool) → Type 0
   Initial B = (i j : ℕ) → i < N .bids → j < N .bids → B i ≡ true → before j i ≡ true → B j ≡ true
 
-  both-true : (x t : Bool) → x ≡ true → t ≡ true → (x && t) ≡ true
-  both-true x t p q = rw (p, q) refl
-
-  ahead-places : (B : ℕ → Bool) → Initial B → (k i : ℕ) → i < N .bids → B i ≡ true → place (N .bids) before i ≡ k → (j : ℕ) → j < N .bids → before j i ≡ true → firstPlaces (N .bids) before B k j ≡ true
+  ahead-places : (B : ℕ → Bool) → Initial B → (k i : ℕ) → i < N .bids → B i ≡ true → placeOf i ≡ k → (j : ℕ) → j < N .bids → before j i ≡ true → firstPlaces B k j ≡ true
   ahead-places B d k i l h e j r q =
-      both-true (B j) (ltb (place (N .bids) before j) k) (d i j l r h q) (lt-ltb (place (N .bids) before j) k (omega (arith, e, place-lt (N .bids) before o j i r l q)))
+      and-made (B j) (ltb (placeOf j) k) (d i j l r h q) (lt-ltb (placeOf j) k (omega (arith, e, place-lt (N .bids) before o j i r l q)))
 
-  upto-eq : (B : ℕ → Bool) → Initial B → (k : ℕ) → total N (bestUsed N before) (firstPlaces (N .bids) before B k) ≡ rank N (firstPlaces (N .bids) before B k)
+  upto-eq : (B : ℕ → Bool) → Initial B → (k : ℕ) → total N (bestUsed N before) (firstPlaces B k) ≡ rank N (firstPlaces B k)
   upto-eq B d zero =
       omega (
         arith,
-        total-ext N (bestUsed N before) (firstPlaces (N .bids) before B 0) (λ i. false) (λ i l. none-at B i),
+        total-ext N (bestUsed N before) (firstPlaces B 0) (λ i. false) (λ i l. none-at B i),
         total-none (bestUsed N before),
-        rank-ext N ok (firstPlaces (N .bids) before B 0) (λ i. false) (λ i l. none-at B i),
+        rank-ext N ok (firstPlaces B 0) (λ i. false) (λ i l. none-at B i),
         rank-none N ok,
       )
-  upto-eq B d (suc k) = go (step-view B k) (upto-eq B d k)
+  upto-eq B d (suc k) = go (next-place B k) (upto-eq B d k)
     where
       F : ℕ → ℕ → Bool
-      F = firstPlaces (N .bids) before B
+      F = firstPlaces B
 
-      go : ((j : ℕ) → j < N .bids → F (suc k) j ≡ F k j)
-          ⊎ ((i : ℕ) × (i < N .bids) × (B i ≡ true) × (place (N .bids) before i ≡ k) × ((j : ℕ) → j < N .bids → F (suc k) j ≡ (F k with-bid i) j))
-          → total N (bestUsed N before) (F k) ≡ rank N (F k) → total N (bestUsed N before) (F (suc k)) ≡ rank N (F (suc k))
+      go : NextPlace B k → total N (bestUsed N before) (F k) ≡ rank N (F k) → total N (bestUsed N before) (F (suc k)) ≡ rank N (F (suc k))
       go (inl h) ih = omega (arith, ih, total-ext N (bestUsed N before) (F (suc k)) (F k) h, rank-ext N ok (F (suc k)) (F k) h)
       go (inr h) ih =
           let i = h .0 in
@@ -205,33 +200,33 @@ module _ (N : Network) (ok : SoundNetwork N) (before : ℕ → ℕ → Bool) (o 
           omega (
             arith,
             ih,
-            total-ext N (bestUsed N before) (F (suc k)) (F k with-bid i) (h .4),
-            rank-ext N ok (F (suc k)) (F k with-bid i) (h .4),
+            total-ext N (bestUsed N before) (F (suc k)) (F k adding i) (h .4),
+            rank-ext N ok (F (suc k)) (F k adding i) (h .4),
             total-with N (bestUsed N before) (F k) i (h .1) (places-not B k i (h .3)),
             gain i,
             rank-ext N ok (F k) (ahead before i) (λ j r. iff (F k j) (before j i) (up j r) (down j r)),
-            rank-ext N ok (F k with-bid i) (ahead before i with-bid i) (λ j r. ap (λ (z : Bool). z || eqb j i) (iff (F k j) (before j i) (up j r) (down j r))),
+            rank-ext N ok (F k adding i) (ahead before i adding i) (λ j r. ap (λ (z : Bool). z || eqb j i) (iff (F k j) (before j i) (up j r) (down j r))),
           )
 
   pub best-initial : (B : ℕ → Bool) → Initial B → total N (bestUsed N before) B ≡ rank N B
   best-initial B d =
-      let F = firstPlaces (N .bids) before B (suc (N .bids)) in
+      let F = firstPlaces B (suc (N .bids)) in
       omega (arith, upto-eq B d (suc (N .bids)), total-ext N (bestUsed N before) F B (λ i l. all-at B i), rank-ext N ok F B (λ i l. all-at B i))
 
   -- the best clearing meets the cuts
-  pub best-cuts : (S : ℕ → Bool) → amountIn N (bestUsed N before) S ≤ cut N S
+  best-cuts : (S : ℕ → Bool) → amountIn N (bestUsed N before) S ≤ cut N S
   unfolding amountIn total cost outside
   best-cuts S =
-      omega (arith, best-le-rank (λ i. S (N .pool i)), rank-le N ok (λ i. S (N .pool i)) S, beyond-own S)
+      omega (arith, best-le-rank (λ i. S (N .pool i)), rank-le N ok (λ i. S (N .pool i)) S, outside-own S)
     where
       own : (s : Bool) (v : ℕ) → on (s && not s) v ≡ 0
       own true v = refl
       own false v = refl
 
-      beyond-own : (S : ℕ → Bool) → outside N (λ i. S (N .pool i)) S ≡ 0
-      beyond-own S = sum-ext (N .bids) _ (λ i. 0) (λ i l. own (S (N .pool i)) (N .size i)) ∙ sum-zero (N .bids)
+      outside-own : (S : ℕ → Bool) → outside N (λ i. S (N .pool i)) S ≡ 0
+      outside-own S = sum-ext (N .bids) _ (λ i. 0) (λ i l. own (S (N .pool i)) (N .size i)) ∙ sum-zero (N .bids)
 
-  pub best-whole : amountIn N (bestUsed N before) all ≡ demand N all
+  best-whole : amountIn N (bestUsed N before) all ≡ demand N all
   unfolding amountIn total
   best-whole = best-initial (λ i. true) (λ i j l r p q. refl) ∙ rank-all N ok
 
@@ -243,7 +238,7 @@ module _ (N : Network) (ok : SoundNetwork N) (before : ℕ → ℕ → Bool) (o 
   best-greatest y f c i l h =
       omega (
         arith,
-        rank-bound N y (c .sizes) (λ s. cut-bound N ok y f c (bit s)) (ahead before i with-bid i),
+        rank-bound N y (c .sizes) (λ s. cut-bound N ok y f c (member s)) (ahead before i adding i),
         total-with N y (ahead before i) i l (o .irreflexive i l),
         gain i,
         same-total,

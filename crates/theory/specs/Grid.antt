@@ -28,7 +28,7 @@ grid-sound n m size pool purchase capacity h = record {
 }
 
 -- sums by rows
-pub sum-cat : (k m : ℕ) (f : ℕ → ℕ) → sumTo (k + m) f ≡ sumTo k f + sumTo m (λ c. f (k + c))
+sum-cat : (k m : ℕ) (f : ℕ → ℕ) → sumTo (k + m) f ≡ sumTo k f + sumTo m (λ c. f (k + c))
 unfolding sumTo
 sum-cat k zero f = rw (add-zero k) (omega arith)
 sum-cat k (suc m) f = rw (add-suc k m) (omega (arith, sum-cat k m f))

@@ -1,24 +1,30 @@
--- The best clearing exists, is unique, has the greatest welfare, and is given by cuts.
+-- The best clearing exists, is unique, has the greatest welfare (BestClearing), and is given by cuts (ClosedBest).
+-- Numbers, tests and orders.
 pub mod Choices
 pub mod Integers
 pub mod StrictOrder
 pub mod Subsets
+-- A network: cuts, ranks, flows line by line, the greatest used amounts and their welfare.
 pub mod Network
 pub mod Rank
 pub mod Balance
 pub mod Flows
 pub mod Greatest
 pub mod Welfare
+pub mod Bounds
+pub mod Reach
+-- Of a book, in document 01's words.
 pub mod MeritOrder
 pub mod Grid
 pub mod BookNetwork
 pub mod FlowOrder
+pub mod Dictionary
+pub mod SameClearing
 pub mod CutClearing
-pub mod ClosedForms
-pub mod PoolPrice
-pub mod ClosedBest
-pub mod Reachable
 pub mod BestClearing
 pub mod Dearer
-pub mod Reach
-pub mod Bounds
+pub mod PoolPrice
+-- The numbers that a plan computes.
+pub mod ClosedForms
+pub mod ClosedBest
+pub mod Reachable

@@ -1,6 +1,6 @@
 -- The merit order at raised prices: a strict total order, compared by two keys.
 use mathlib.Core.Path.{_≡_, refl, sym}
-use mathlib.Core.Bool.{Bool, true, false, not, _&&_, _||_, true≢false}
+use mathlib.Core.Bool.{Bool, true, false, _&&_, _||_, true≢false}
 use mathlib.Core.Logic.{_≢_, _⊎_, inl, inr}
 use Prim.Native.Nat.{ℕ, _+_, _*_, _≤_, _<_}
 use native.Mathlib.Omega.{arith}
@@ -22,7 +22,7 @@ tie true true j i = ltb i j
 unfoldable pub merit : (ℕ → ℕ) → (ℕ → Bool) → ℕ → ℕ → Bool
 merit price purchase j i = ltb (price j) (price i) || (eqb (price j) (price i) && tie (purchase j) (purchase i) j i)
 
--- the same as a statement
+-- what it says
 abbrev Tie : Bool → Bool → ℕ → ℕ → Type 0
 Tie false false j i = j < i
 Tie false true j i = Unit {0}
@@ -75,7 +75,8 @@ or-split true y z e = inl refl
 or-split false true z e = inr (refl, e)
 or-split false false z e = absurd (true≢false (sym e))
 
-low-says : (s t : Bool) (p q j i : ℕ) → j < i → (p < q) ⊎ ((p ≡ q) × Tie s t j i) → 2 * p + on s 1 < 2 * q + on t 1 + on (not t) 1
+-- of a lower and of a higher bid number: one comparison of keys says the same (s and t: bids j and i are purchases)
+low-says : (s t : Bool) (p q j i : ℕ) → j < i → (p < q) ⊎ ((p ≡ q) × Tie s t j i) → 2 * p + on s 1 < 2 * q + 1
 low-says true true p q j i l (inl h) = omega arith
 low-says true true p q j i l (inr h) = omega (arith, h .0, h .1)
 low-says true false p q j i l (inl h) = omega arith
@@ -93,13 +94,13 @@ settled p q h t = go (eq-or-lt-of-le h) t
     go (inl e) t = inr (e, t e)
     go (inr e) t = inl e
 
-says-low : (s t : Bool) (p q j i : ℕ) → j < i → 2 * p + on s 1 < 2 * q + on t 1 + on (not t) 1 → (p < q) ⊎ ((p ≡ q) × Tie s t j i)
+says-low : (s t : Bool) (p q j i : ℕ) → j < i → 2 * p + on s 1 < 2 * q + 1 → (p < q) ⊎ ((p ≡ q) × Tie s t j i)
 says-low true true p q j i l h = settled p q (omega arith) (λ e. omega arith)
 says-low true false p q j i l h = settled p q (omega arith) (λ e. omega arith)
 says-low false true p q j i l h = settled p q (omega arith) (λ e. tt)
 says-low false false p q j i l h = settled p q (omega arith) (λ e. omega arith)
 
-high-says : (s t : Bool) (p q j i : ℕ) → i < j → (p < q) ⊎ ((p ≡ q) × Tie s t j i) → 2 * p + on s 1 + on (not s) 1 < 2 * q + on t 1 + 1
+high-says : (s t : Bool) (p q j i : ℕ) → i < j → (p < q) ⊎ ((p ≡ q) × Tie s t j i) → 2 * p < 2 * q + on t 1
 high-says true true p q j i l (inl h) = omega arith
 high-says true true p q j i l (inr h) = omega (arith, h .0, h .1)
 high-says true false p q j i l (inl h) = omega arith
@@ -109,7 +110,7 @@ high-says false true p q j i l (inr h) = omega (arith, h .0)
 high-says false false p q j i l (inl h) = omega arith
 high-says false false p q j i l (inr h) = omega (arith, h .0, h .1)
 
-says-high : (s t : Bool) (p q j i : ℕ) → i < j → 2 * p + on s 1 + on (not s) 1 < 2 * q + on t 1 + 1 → (p < q) ⊎ ((p ≡ q) × Tie s t j i)
+says-high : (s t : Bool) (p q j i : ℕ) → i < j → 2 * p < 2 * q + on t 1 → (p < q) ⊎ ((p ≡ q) × Tie s t j i)
 says-high true true p q j i l h = settled p q (omega arith) (λ e. omega arith)
 says-high true false p q j i l h = settled p q (omega arith) (λ e. omega arith)
 says-high false true p q j i l h = settled p q (omega arith) (λ e. tt)
@@ -174,15 +175,15 @@ module _ (price : ℕ → ℕ) (purchase : ℕ → Bool) where
   abbrev pub key : ℕ → ℕ
   key i = 2 * price i + on (purchase i) 1
 
-  pub key-low : (j i : ℕ) → j < i → merit price purchase j i ≡ ltb (key j) (key i + on (not (purchase i)) 1)
-  key-low j i l = iff (merit price purchase j i) (ltb (key j) (key i + on (not (purchase i)) 1))
-      (λ e. lt-ltb (key j) (key i + on (not (purchase i)) 1) (low-says (purchase j) (purchase i) (price j) (price i) j i l (merit-says j i e)))
-      (λ e. says-merit j i (says-low (purchase j) (purchase i) (price j) (price i) j i l (ltb-true (key j) (key i + on (not (purchase i)) 1) e)))
+  pub key-low : (j i : ℕ) → j < i → merit price purchase j i ≡ ltb (key j) (2 * price i + 1)
+  key-low j i l = iff (merit price purchase j i) (ltb (key j) (2 * price i + 1))
+      (λ e. lt-ltb (key j) (2 * price i + 1) (low-says (purchase j) (purchase i) (price j) (price i) j i l (merit-says j i e)))
+      (λ e. says-merit j i (says-low (purchase j) (purchase i) (price j) (price i) j i l (ltb-true (key j) (2 * price i + 1) e)))
 
-  pub key-high : (j i : ℕ) → i < j → merit price purchase j i ≡ ltb (key j + on (not (purchase j)) 1) (key i + 1)
-  key-high j i l = iff (merit price purchase j i) (ltb (key j + on (not (purchase j)) 1) (key i + 1))
-      (λ e. lt-ltb (key j + on (not (purchase j)) 1) (key i + 1) (high-says (purchase j) (purchase i) (price j) (price i) j i l (merit-says j i e)))
-      (λ e. says-merit j i (says-high (purchase j) (purchase i) (price j) (price i) j i l (ltb-true (key j + on (not (purchase j)) 1) (key i + 1) e)))
+  pub key-high : (j i : ℕ) → i < j → merit price purchase j i ≡ ltb (2 * price j) (key i)
+  key-high j i l = iff (merit price purchase j i) (ltb (2 * price j) (key i))
+      (λ e. lt-ltb (2 * price j) (key i) (high-says (purchase j) (purchase i) (price j) (price i) j i l (merit-says j i e)))
+      (λ e. says-merit j i (says-high (purchase j) (purchase i) (price j) (price i) j i l (ltb-true (2 * price j) (key i) e)))
 
 -- a higher price comes later: whoever was ahead still is
 pub merit-raise : (price price' : ℕ → ℕ) (purchase purchase' : ℕ → Bool) (j i : ℕ) → price i ≤ price' i → price' j ≡ price j → purchase' j ≡ purchase j → purchase' i ≡ purchase i

@@ -3,6 +3,7 @@ use mathlib.Core.Path.{_≡_, refl, sym, ap, ap₂, _∙_}
 use mathlib.Core.Bool.{Bool, true, false, not, _&&_, _||_}
 use Prim.Native.Nat.{ℕ, _+_, _≤_, _<_}
 use native.Mathlib.Omega.{arith}
+use lib.Dec.{eqb}
 use Rattle.definitions.specs.Arithmetic.{on, sumTo}
 use Rattle.laws.specs.Sum.{sum-ext, sum-le, sum-add, sum-add4, sum-zero, sum-le-at}
 use Rattle.theory.specs.Subsets.{LooksBelow}
@@ -32,17 +33,25 @@ amountIn N v S = sumTo (N .bids) (λ i. on (S (N .pool i)) (v i))
 unfoldable pub demand : Network → (ℕ → Bool) → ℕ
 demand N S = sumTo (N .bids) (λ i. on (S (N .pool i) && N .purchase i) (N .size i))
 
+-- line j leaves S, enters S
+abbrev pub goesOut : Network → (ℕ → Bool) → ℕ → Bool
+goesOut N S j = S (N .source j) && not (S (N .target j))
+
+abbrev pub comesIn : Network → (ℕ → Bool) → ℕ → Bool
+comesIn N S j = not (S (N .source j)) && S (N .target j)
+
 -- the sum of c over the lines that leave S, that enter S
 unfoldable pub leaving : Network → (ℕ → ℕ) → (ℕ → Bool) → ℕ
-leaving N c S = sumTo (N .lines) (λ j. on (S (N .source j) && not (S (N .target j))) (c j))
+leaving N c S = sumTo (N .lines) (λ j. on (goesOut N S j) (c j))
 
 unfoldable pub entering : Network → (ℕ → ℕ) → (ℕ → Bool) → ℕ
-entering N c S = sumTo (N .lines) (λ j. on (not (S (N .source j)) && S (N .target j)) (c j))
+entering N c S = sumTo (N .lines) (λ j. on (comesIn N S j) (c j))
 
 -- the cut of S: its demand, and all that can leave it
 unfoldable pub cut : Network → (ℕ → Bool) → ℕ
 cut N S = demand N S + leaving N (N .capacity) S
 
+-- sets
 infixl 40 _∪_
 infixl 45 _∩_
 abbrev pub _∪_ : (ℕ → Bool) → (ℕ → Bool) → ℕ → Bool
@@ -50,6 +59,11 @@ _∪_ S R = λ p. S p || R p
 
 abbrev pub _∩_ : (ℕ → Bool) → (ℕ → Bool) → ℕ → Bool
 _∩_ S R = λ p. S p && R p
+
+-- the set S and the number i
+infixl 50 _adding_
+abbrev pub _adding_ : (ℕ → Bool) → ℕ → ℕ → Bool
+_adding_ S i = λ j. S j || eqb j i
 
 -- each looks only at the network's own pools
 pub demand-ext : (N : Network) → SoundNetwork N → LooksBelow (N .pools) (demand N)
@@ -101,12 +115,12 @@ lines-one false false false false low high h = omega arith
 
 module _ (N : Network) (low high : ℕ → ℕ) (S R : ℕ → Bool) where
   lower : ℕ → ℕ
-  lower j = on ((S ∪ R) (N .source j) && not ((S ∪ R) (N .target j))) (high j) + on ((S ∩ R) (N .source j) && not ((S ∩ R) (N .target j))) (high j)
-      + on (not (S (N .source j)) && S (N .target j)) (low j) + on (not (R (N .source j)) && R (N .target j)) (low j)
+  lower j = on (goesOut N (S ∪ R) j) (high j) + on (goesOut N (S ∩ R) j) (high j)
+      + on (comesIn N S j) (low j) + on (comesIn N R j) (low j)
 
   upper : ℕ → ℕ
-  upper j = on (S (N .source j) && not (S (N .target j))) (high j) + on (R (N .source j) && not (R (N .target j))) (high j)
-      + on (not ((S ∪ R) (N .source j)) && (S ∪ R) (N .target j)) (low j) + on (not ((S ∩ R) (N .source j)) && (S ∩ R) (N .target j)) (low j)
+  upper j = on (goesOut N S j) (high j) + on (goesOut N R j) (high j)
+      + on (comesIn N (S ∪ R) j) (low j) + on (comesIn N (S ∩ R) j) (low j)
 
   lower-sum : sumTo (N .lines) lower ≡ leaving N high (S ∪ R) + leaving N high (S ∩ R) + entering N low S + entering N low R
   unfolding lower leaving entering
@@ -120,7 +134,7 @@ module _ (N : Network) (low high : ℕ → ℕ) (S R : ℕ → Bool) where
   unfolding lower upper
   lower-le h j l = lines-one (S (N .source j)) (S (N .target j)) (R (N .source j)) (R (N .target j)) (low j) (high j) (h j l)
 
-  pub lines-submodular : ((j : ℕ) → j < N .lines → low j ≤ high j)
+  lines-submodular : ((j : ℕ) → j < N .lines → low j ≤ high j)
       → leaving N high (S ∪ R) + leaving N high (S ∩ R) + entering N low S + entering N low R ≤ leaving N high S + leaving N high R + entering N low (S ∪ R) + entering N low (S ∩ R)
   lines-submodular h = omega (arith, lower-sum, upper-sum, sum-le (N .lines) lower upper (lower-le h))
 
@@ -137,9 +151,9 @@ module _ (N : Network) (low high : ℕ → ℕ) (S R : ℕ → Bool) where
 
 entering-zero : (N : Network) (S : ℕ → Bool) → entering N (λ j. 0) S ≡ 0
 unfolding entering
-entering-zero N S = sum-ext (N .lines) _ (λ j. 0) (λ j l. on-zero (not (S (N .source j)) && S (N .target j))) ∙ sum-zero (N .lines)
+entering-zero N S = sum-ext (N .lines) _ (λ j. 0) (λ j l. on-zero (comesIn N S j)) ∙ sum-zero (N .lines)
 
-pub leaving-submodular : (N : Network) (c : ℕ → ℕ) (S R : ℕ → Bool) → leaving N c (S ∪ R) + leaving N c (S ∩ R) ≤ leaving N c S + leaving N c R
+leaving-submodular : (N : Network) (c : ℕ → ℕ) (S R : ℕ → Bool) → leaving N c (S ∪ R) + leaving N c (S ∩ R) ≤ leaving N c S + leaving N c R
 leaving-submodular N c S R =
     omega (arith, lines-submodular N (λ j. 0) c S R (λ j l. omega arith), entering-zero N S, entering-zero N R, entering-zero N (S ∪ R), entering-zero N (S ∩ R))
 

@@ -2,22 +2,22 @@
 use mathlib.Core.Path.{_≡_, refl, sym, ap, ap₂, _∙_, subst}
 use mathlib.Core.Bool.{Bool, true, false, _&&_, cond, true≢false}
 use mathlib.Core.Logic.{_⊎_, inl, inr}
-use Prim.Native.Nat.{ℕ, zero, suc, _+_, _-_, _*_, _%_, _≤_, _<_, max}
+use Prim.Native.Nat.{ℕ, zero, suc, _+_, _*_, _≤_, _<_, max}
 use native.Mathlib.Omega.{arith}
 use native.Mathlib.Nat.{eq-or-lt-of-le, suc-inj}
 use lib.Dec.{ltb}
 use lib.IntN.{ℤ, pos, negsuc}
 use lib.Signed.{_≤ℤ_, ltZ, ≤ℤ-refl}
 use borrow.Author.Tests.{lt-ltb}
-use Rattle.definitions.specs.Limits.{priceLimit, modulus}
+use Rattle.definitions.specs.Limits.{priceLimit}
 use Rattle.definitions.specs.Arithmetic.{on, residue}
 use Rattle.definitions.specs.Book.{Book, price, sale, inPool}
+use Rattle.definitions.specs.Machine.{minus}
 use Rattle.definitions.specs.Clearing.{PoolPrice, missing, present, higher, highest, poolPrice, sells, priceResidue, presence}
 use Rattle.laws.specs.Tests.{Lt?, less, more, lt?}
 use Rattle.laws.specs.Extremes.{maxTo}
 use Rattle.laws.specs.AcceptedBook.{Sound, raisedPrice}
 use Rattle.theory.specs.Integers.{RaisedBy, raised-less, le-less, not-less}
-use Rattle.theory.specs.ClosedForms.{greatestOf, greatestSale}
 use Rattle.theory.specs.BookNetwork.{price-raised}
 
 -- Among the first k bids: none sells in pool p, or bid i does and none that does has a higher price.
@@ -89,6 +89,13 @@ higher-next z y h r q e s =
     go (less l) = (omega (arith, q .0), omega arith, omega arith)
     go (more l) = (omega (arith, q .0), omega arith, omega (arith, q .2))
 
+-- among the first k bids, and among all
+unfoldable pub greatestOf : Book → (ℕ → ℕ) → (p k : ℕ) → ℕ
+greatestOf B accepted p k = maxTo k (λ i. on (sells B accepted p i) (suc (raisedPrice B i)))
+
+abbrev pub greatestSale : Book → (ℕ → ℕ) → ℕ → ℕ
+greatestSale B accepted p = greatestOf B accepted p (B .n)
+
 one-more : (B : Book) → Sound B → (accepted : ℕ → ℕ) (p k : ℕ) → k ≤ B .n → OneMore (highest B accepted p k) (greatestOf B accepted p k)
 unfolding highest greatestOf maxTo
 one-more B ok accepted p zero l = refl
@@ -101,11 +108,11 @@ one-more B ok accepted p (suc k) l = go (sells B accepted p k) (highest B accept
     go true (present z) h = higher-next z (price B k) (greatestOf B accepted p k) (raisedPrice B k) h (price-raised B ok k l) (ok .price-small k l)
 
 -- the two cells of a price, from one more than the raised price
-present-residue : (z : ℤ) (h : ℕ) → RaisedBy (suc priceLimit) z h → 0 < h → h ≤ 2 * priceLimit + 1 → residue z ≡ (h + (modulus - suc priceLimit)) % modulus
+present-residue : (z : ℤ) (h : ℕ) → RaisedBy (suc priceLimit) z h → 0 < h → h ≤ 2 * priceLimit + 1 → residue z ≡ minus h (suc priceLimit)
 present-residue (pos v) h e l r = omega arith
 present-residue (negsuc v) h e l r = omega arith
 
-price-cell : (x : PoolPrice) (h : ℕ) → OneMore x h → priceResidue x ≡ cond (ltb 0 h) ((h + (modulus - suc priceLimit)) % modulus) 0
+price-cell : (x : PoolPrice) (h : ℕ) → OneMore x h → priceResidue x ≡ on (ltb 0 h) (minus h (suc priceLimit))
 price-cell missing h e = rw e refl
 price-cell (present z) h e = rw (lt-ltb 0 h (e .1)) (present-residue z h (e .0) (e .1) (e .2))
 
@@ -114,7 +121,7 @@ presence-cell missing h e = rw e refl
 presence-cell (present z) h e = rw (lt-ltb 0 h (e .1)) refl
 
 module _ (B : Book) (ok : Sound B) (accepted : ℕ → ℕ) (p : ℕ) where
-  pub price-by-greatest : priceResidue (poolPrice B accepted p) ≡ cond (ltb 0 (greatestSale B accepted p)) ((greatestSale B accepted p + (modulus - suc priceLimit)) % modulus) 0
+  pub price-by-greatest : priceResidue (poolPrice B accepted p) ≡ on (ltb 0 (greatestSale B accepted p)) (minus (greatestSale B accepted p) (suc priceLimit))
   unfolding poolPrice
   price-by-greatest = price-cell (highest B accepted p (B .n)) (greatestSale B accepted p) (one-more B ok accepted p (B .n) (omega arith))
 

@@ -8,8 +8,8 @@ use lib.Dec.{eqb}
 use Rattle.definitions.specs.Arithmetic.{on, sumTo}
 use Rattle.laws.specs.Sum.{sum-ext, sum-le, sum-add, sum-zero, sum-one}
 use Rattle.laws.specs.Tests.{Eq?, same, diff, eq?}
-use Rattle.theory.specs.Subsets.{LooksBelow, bit, least, least-at, least-le}
-use Rattle.theory.specs.Network.{Network, SoundNetwork, demand, leaving, cut, amountIn, cut-ext, cut-submodular, _∪_, _∩_}
+use Rattle.theory.specs.Subsets.{LooksBelow, member, least, least-at, least-le}
+use Rattle.theory.specs.Network.{Network, SoundNetwork, demand, leaving, cut, amountIn, cut-ext, cut-submodular, _∪_, _∩_, _adding_}
 
 -- the sum of v over the bids in B
 unfoldable pub total : Network → (ℕ → ℕ) → (ℕ → Bool) → ℕ
@@ -25,18 +25,13 @@ cost N B S = cut N S + outside N B S
 unfoldable pub rank : Network → (ℕ → Bool) → ℕ
 rank N B = least (N .pools) (cost N B)
 
--- the set B and the bid i
-infixl 50 _with-bid_
-abbrev pub _with-bid_ : (ℕ → Bool) → ℕ → ℕ → Bool
-_with-bid_ B i = λ j. B j || eqb j i
-
 cost-ext : (N : Network) (B : ℕ → Bool) → SoundNetwork N → LooksBelow (N .pools) (cost N B)
 unfolding cost outside
 cost-ext N B k P Q e =
     ap₂ _+_ (cut-ext N k P Q e) (sum-ext _ _ _ (λ i l. ap (λ (z : Bool). on (B i && not z) (N .size i)) (e (N .pool i) (k .pool-below i l))))
 
 -- the two laws of the rank
-pub rank-at : (N : Network) (B : ℕ → Bool) → (s : ℕ) × (rank N B ≡ cost N B (bit s))
+rank-at : (N : Network) (B : ℕ → Bool) → (s : ℕ) × (rank N B ≡ cost N B (member s))
 unfolding rank
 rank-at N B = let a = least-at (N .pools) (cost N B) in (a .0, a .2)
 
@@ -45,7 +40,7 @@ unfolding rank
 rank-le N k B S = least-le (N .pools) (cost N B) (cost-ext N B k) S
 
 rank-cost : (N : Network) → SoundNetwork N → (A B : ℕ → Bool) (d : ℕ) → ((S : ℕ → Bool) → cost N A S ≤ cost N B S + d) → rank N A ≤ rank N B + d
-rank-cost N k A B d h = let a = rank-at N B in omega (arith, a .1, rank-le N k A (bit (a .0)), h (bit (a .0)))
+rank-cost N k A B d h = let a = rank-at N B in omega (arith, a .1, rank-le N k A (member (a .0)), h (member (a .0)))
 
 -- of smaller sets, and of one more bid
 on-le-if : (x y : Bool) (v : ℕ) → (x ≡ true → y ≡ true) → (s : Bool) → on (x && s) v ≤ on (y && s) v
@@ -72,10 +67,10 @@ more-one false true false v = omega arith
 more-one false false true v = omega arith
 more-one false false false v = omega arith
 
-pub rank-one-more : (N : Network) → SoundNetwork N → (B : ℕ → Bool) (i : ℕ) → i < N .bids → rank N (B with-bid i) ≤ rank N B + N .size i
+pub rank-one-more : (N : Network) → SoundNetwork N → (B : ℕ → Bool) (i : ℕ) → i < N .bids → rank N (B adding i) ≤ rank N B + N .size i
 unfolding cost outside
 rank-one-more N k B i l =
-    rank-cost N k (B with-bid i) B (N .size i) (λ S.
+    rank-cost N k (B adding i) B (N .size i) (λ S.
     omega (
       arith,
       sum-le (N .bids) _ _ (λ j r. more-one (B j) (eqb j i) (not (S (N .pool j))) (N .size j)),
@@ -102,9 +97,9 @@ rank-all N k =
     let a = rank-le N k (λ i. true) (λ p. true) in
     let c = rank-at N (λ i. true) in
     let w = sum-le (N .bids) (λ i. on (true && N .purchase i) (N .size i))
-    (λ i. on (bit (c .0) (N .pool i) && N .purchase i) (N .size i) + on (true && not (bit (c .0) (N .pool i))) (N .size i))
-    (λ i l. demand-split (bit (c .0) (N .pool i)) (N .purchase i) (N .size i)) in
-    let v = sum-add (N .bids) (λ i. on (bit (c .0) (N .pool i) && N .purchase i) (N .size i)) (λ i. on (true && not (bit (c .0) (N .pool i))) (N .size i)) in
+    (λ i. on (member (c .0) (N .pool i) && N .purchase i) (N .size i) + on (true && not (member (c .0) (N .pool i))) (N .size i))
+    (λ i l. demand-split (member (c .0) (N .pool i)) (N .purchase i) (N .size i)) in
+    let v = sum-add (N .bids) (λ i. on (member (c .0) (N .pool i) && N .purchase i) (N .size i)) (λ i. on (true && not (member (c .0) (N .pool i))) (N .size i)) in
     le-antisymm (omega (arith, a, sum-zero (N .bids), sum-zero (N .lines))) (omega (arith, c .1, w, v))
 
 -- no feasible use of B exceeds its rank
@@ -114,12 +109,12 @@ bound-one true false v u h = omega arith
 bound-one false true v u h = omega arith
 bound-one false false v u h = omega arith
 
-pub rank-bound : (N : Network) (y : ℕ → ℕ) → ((i : ℕ) → i < N .bids → y i ≤ N .size i) → ((s : ℕ) → amountIn N y (bit s) ≤ cut N (bit s))
+pub rank-bound : (N : Network) (y : ℕ → ℕ) → ((i : ℕ) → i < N .bids → y i ≤ N .size i) → ((s : ℕ) → amountIn N y (member s) ≤ cut N (member s))
     → (B : ℕ → Bool) → total N y B ≤ rank N B
 unfolding cost outside amountIn total
 rank-bound N y h c B =
     let a = rank-at N B in
-    let S = bit (a .0) in
+    let S = member (a .0) in
     omega (
       arith,
       a .1,
@@ -162,8 +157,8 @@ unfolding cost
 rank-submodular N k A B =
     let s = rank-at N A in
     let r = rank-at N B in
-    let S = bit (s .0) in
-    let R = bit (r .0) in
+    let S = member (s .0) in
+    let R = member (r .0) in
     omega (arith, s .1, r .1, rank-le N k (A ∪ B) (S ∪ R), rank-le N k (A ∩ B) (S ∩ R), cut-submodular N S R, outside-submodular N A B S R)
 
 -- gains diminish
@@ -180,11 +175,11 @@ diminish-and false y j i (same p) h q = q p
 diminish-and false y j i (diff p) h q = refl
 
 pub gains-diminish : (N : Network) → SoundNetwork N → (A B : ℕ → Bool) (i : ℕ) → ((j : ℕ) → j < N .bids → A j ≡ true → B j ≡ true) → B i ≡ false
-    → rank N (B with-bid i) + rank N A ≤ rank N (A with-bid i) + rank N B
+    → rank N (B adding i) + rank N A ≤ rank N (A adding i) + rank N B
 gains-diminish N k A B i h q =
     omega (
       arith,
-      rank-submodular N k (A with-bid i) B,
-      rank-ext N k ((A with-bid i) ∪ B) (B with-bid i) (λ j l. diminish-or (A j) (B j) (eqb j i) (h j l)),
-      rank-ext N k ((A with-bid i) ∩ B) A (λ j l. diminish-and (A j) (B j) j i (eq? j i) (h j l) (λ e. ap B e ∙ q)),
+      rank-submodular N k (A adding i) B,
+      rank-ext N k ((A adding i) ∪ B) (B adding i) (λ j l. diminish-or (A j) (B j) (eqb j i) (h j l)),
+      rank-ext N k ((A adding i) ∩ B) A (λ j l. diminish-and (A j) (B j) j i (eq? j i) (h j l) (λ e. ap B e ∙ q)),
     )

@@ -1,18 +1,18 @@
 -- One pool reaches another, along lines that are not full or back along lines that carry something, exactly if no set without slack parts them.
-use mathlib.Core.Path.{_≡_, refl, sym, ap, _∙_, subst}
+use mathlib.Core.Path.{_≡_, refl, sym, _∙_, subst}
 use mathlib.Core.Bool.{Bool, true, false, not, _&&_, _||_, true≢false}
 use mathlib.Core.Logic.{_⊎_, inl, inr}
 use Prim.Native.Nat.{ℕ, zero, suc, _-_, _≤_, _<_}
-use native.Mathlib.Nat.{eq-or-lt-of-le, suc-inj}
 use native.Mathlib.Omega.{arith}
 use native.Mathlib.Decide.{decLt}
 use lib.Dec.{eqb, ltb}
-use borrow.Author.Tests.{lt-ltb, ltb-true, eqb-true, eq-eqb}
+use borrow.Author.Tests.{ltb-true, eqb-true, eq-eqb}
 use Rattle.definitions.specs.Arithmetic.{on, sumTo}
-use Rattle.laws.specs.Sum.{sum-le, sum-zero, sum-le-at, sum-bound}
-use Rattle.theory.specs.Network.{Network, SoundNetwork, leaving, entering, cut, amountIn}
-use Rattle.theory.specs.Balance.{FeasibleUse, cut-balance}
-use Rattle.theory.specs.Choices.{on-le, on-monotone, is-true, or-cases, or-left, or-right, and-both, and-made}
+use Rattle.laws.specs.Sum.{sum-le, sum-zero, sum-le-at}
+use Rattle.laws.specs.Tests.{Lt?, less, more, lt?}
+use Rattle.theory.specs.Network.{goesOut, comesIn, Network, SoundNetwork, leaving, entering, cut, amountIn, _adding_}
+use Rattle.theory.specs.Balance.{only, FeasibleUse, cut-balance}
+use Rattle.theory.specs.Choices.{search, on-monotone, is-true, or-cases, or-left, and-both}
 
 pub data Reach (N : Network) (f : ℕ → ℕ) (q : ℕ) : ℕ → Type 0 where
   here : Reach N f q q
@@ -28,8 +28,8 @@ module _ (N : Network) (ok : SoundNetwork N) (x f : ℕ → ℕ) (c : FeasibleUs
         arith,
         tight,
         cut-balance N ok x f c S,
-        sum-le-at (N .lines) (λ i. on (S (N .source i) && not (S (N .target i))) (f i)) (λ i. on (S (N .source i) && not (S (N .target i))) (N .capacity i)) (N .capacity j - f j) j l
-            (rw (p, q) (omega arith)) (λ i r. on-monotone (S (N .source i) && not (S (N .target i))) (f i) (N .capacity i) (c .capacities i r)),
+        sum-le-at (N .lines) (λ i. on (goesOut N S i) (f i)) (λ i. on (goesOut N S i) (N .capacity i)) (N .capacity j - f j) j l
+            (rw (p, q) (omega arith)) (λ i r. on-monotone (goesOut N S i) (f i) (N .capacity i) (c .capacities i r)),
       )
 
   empty : (j : ℕ) → j < N .lines → S (N .source j) ≡ false → S (N .target j) ≡ true → 0 < f j → ⊥
@@ -39,9 +39,9 @@ module _ (N : Network) (ok : SoundNetwork N) (x f : ℕ → ℕ) (c : FeasibleUs
         arith,
         tight,
         cut-balance N ok x f c S,
-        sum-le (N .lines) (λ i. on (S (N .source i) && not (S (N .target i))) (f i)) (λ i. on (S (N .source i) && not (S (N .target i))) (N .capacity i))
-            (λ i r. on-monotone (S (N .source i) && not (S (N .target i))) (f i) (N .capacity i) (c .capacities i r)),
-        sum-le-at (N .lines) (λ i. 0) (λ i. on (not (S (N .source i)) && S (N .target i)) (f i)) (f j) j l (rw (p, q) (omega arith)) (λ i r. omega arith),
+        sum-le (N .lines) (λ i. on (goesOut N S i) (f i)) (λ i. on (goesOut N S i) (N .capacity i))
+            (λ i r. on-monotone (goesOut N S i) (f i) (N .capacity i) (c .capacities i r)),
+        sum-le-at (N .lines) (λ i. 0) (λ i. on (comesIn N S i) (f i)) (f j) j l (rw (p, q) (omega arith)) (λ i r. omega arith),
       )
 
   stays : (q : ℕ) → S q ≡ true → {p : ℕ} → Reach N f q p → S p ≡ true
@@ -57,190 +57,106 @@ reach-slack N ok x f c q p r S e z = go (decLt (amountIn N x S) (cut N S))
     go (yes h) = h
     go (no h) = absurd (true≢false (sym (stays N ok x f c S (omega arith) q e r) ∙ z))
 
--- a closed set has no slack
-module _ (N : Network) (ok : SoundNetwork N) (x f : ℕ → ℕ) (c : FeasibleUse N x f) (R : ℕ → Bool)
-    (forward : (j : ℕ) → j < N .lines → R (N .source j) ≡ true → f j < N .capacity j → R (N .target j) ≡ true)
-    (backward : (j : ℕ) → j < N .lines → R (N .target j) ≡ true → 0 < f j → R (N .source j) ≡ true) where
-  closed-tight : cut N R ≤ amountIn N x R
+-- a line that leads on from neither of its ends, by the tests: s and t say that a set holds its source and its target
+idle : (s t : Bool) (v w : ℕ) {x y : Bool} → Lt? v w x → Lt? 0 v y → ((s && not t) && x) || ((not s && t) && y) ≡ false
+    → (on (s && not t) w ≤ on (s && not t) v) × (on (not s && t) v ≤ 0)
+idle true true v w a b e = (omega arith, omega arith)
+idle true false v w (less l) b e = absurd (true≢false e)
+idle true false v w (more l) b e = (omega arith, omega arith)
+idle false true v w a (less l) e = absurd (true≢false e)
+idle false true v w a (more l) e = (omega arith, omega arith)
+idle false false v w a b e = (omega arith, omega arith)
+
+-- if: a set of reached pools grows until it holds p
+module _ (N : Network) (ok : SoundNetwork N) (x f : ℕ → ℕ) (c : FeasibleUse N x f) (q p : ℕ)
+    (slack : (S : ℕ → Bool) → S q ≡ true → S p ≡ false → amountIn N x S < cut N S) where
+  -- line j leads on from R, along it or back
+  abbrev leadsOn : (ℕ → Bool) → ℕ → Bool
+  leadsOn R j = (goesOut N R j && ltb (f j) (N .capacity j)) || (comesIn N R j && ltb 0 (f j))
+
+  is-not : (t : Bool) → not t ≡ true → t ≡ false
+  is-not true e = sym e
+  is-not false e = refl
+
+  -- a pool that R lacks can be reached
+  abbrev Further : (ℕ → Bool) → Type 0
+  Further R = (r : ℕ) × (r < N .pools) × (R r ≡ false) × Reach N f q r
+
+  along-line : (R : ℕ → Bool) → ((r : ℕ) → R r ≡ true → Reach N f q r) → (j : ℕ) → j < N .lines → leadsOn R j ≡ true → Further R
+  along-line R reached j l e = go (or-cases (goesOut N R j && ltb (f j) (N .capacity j)) (comesIn N R j && ltb 0 (f j)) e)
+    where
+      go : ((goesOut N R j && ltb (f j) (N .capacity j)) ≡ true) ⊎ ((comesIn N R j && ltb 0 (f j)) ≡ true) → Further R
+      go (inl h) =
+          let u = and-both (goesOut N R j) (ltb (f j) (N .capacity j)) h in
+          let v = and-both (R (N .source j)) (not (R (N .target j))) (u .0) in
+          (N .target j, ok .target-below j l, is-not (R (N .target j)) (v .1), along j l (ltb-true (f j) (N .capacity j) (u .1)) (reached (N .source j) (v .0)))
+      go (inr h) =
+          let u = and-both (comesIn N R j) (ltb 0 (f j)) h in
+          let v = and-both (not (R (N .source j))) (R (N .target j)) (u .0) in
+          (N .source j, ok .source-below j l, is-not (R (N .source j)) (v .0), back j l (ltb-true 0 (f j) (u .1)) (reached (N .target j) (v .1)))
+
+  -- a set from which no line leads on has no slack
+  idle-tight : (R : ℕ → Bool) → ((j : ℕ) → j < N .lines → leadsOn R j ≡ false) → cut N R ≤ amountIn N x R
   unfolding cut leaving entering
-  closed-tight =
+  idle-tight R h =
       omega (
         arith,
         cut-balance N ok x f c R,
-        sum-le (N .lines) (λ i. on (R (N .source i) && not (R (N .target i))) (N .capacity i)) (λ i. on (R (N .source i) && not (R (N .target i))) (f i))
-            (λ i r. forward-one (R (N .source i)) (R (N .target i)) (f i) (N .capacity i) (forward i r)),
-        sum-le (N .lines) (λ i. on (not (R (N .source i)) && R (N .target i)) (f i)) (λ i. 0)
-            (λ i r. backward-one (R (N .source i)) (R (N .target i)) (f i) (backward i r)),
+        sum-le (N .lines) (λ j. on (goesOut N R j) (N .capacity j)) (λ j. on (goesOut N R j) (f j)) (λ j l. idle-at j l .0),
+        sum-le (N .lines) (λ j. on (comesIn N R j) (f j)) (λ j. 0) (λ j l. idle-at j l .1),
         sum-zero (N .lines),
       )
     where
-      forward-one : (s t : Bool) (v w : ℕ) → (s ≡ true → v < w → t ≡ true) → on (s && not t) w ≤ on (s && not t) v
-      forward-one true true v w h = omega arith
-      forward-one true false v w h = go (decLt v w)
+      idle-at : (j : ℕ) → j < N .lines → (on (goesOut N R j) (N .capacity j) ≤ on (goesOut N R j) (f j)) × (on (comesIn N R j) (f j) ≤ 0)
+      idle-at j l = idle (R (N .source j)) (R (N .target j)) (f j) (N .capacity j) (lt? (f j) (N .capacity j)) (lt? 0 (f j)) (h j l)
+
+  further : (R : ℕ → Bool) → ((r : ℕ) → R r ≡ true → Reach N f q r) → R q ≡ true → R p ≡ false → Further R
+  further R reached e z = go (search (N .lines) (leadsOn R))
+    where
+      go : ((j : ℕ) × (j < N .lines) × (leadsOn R j ≡ true)) ⊎ ((j : ℕ) → j < N .lines → leadsOn R j ≡ false) → Further R
+      go (inl h) = along-line R reached (h .0) (h .1) (h .2)
+      go (inr h) = absurd (omega (arith, idle-tight R h, slack R e z))
+
+  -- how many pools R lacks
+  unfoldable lacking : (ℕ → Bool) → ℕ
+  lacking R = sumTo (N .pools) (λ r. on (not (R r)) 1)
+
+  lacks-less : (R : ℕ → Bool) (r : ℕ) → r < N .pools → R r ≡ false → lacking (R adding r) < lacking R
+  unfolding lacking
+  lacks-less R r l e =
+      omega (
+        arith,
+        sum-le-at (N .pools) (λ s. on (not ((R adding r) s)) 1) (λ s. on (not (R s)) 1) 1 r l (rw (e, eq-eqb r r refl) (omega arith)) (λ s k. fewer (R s) (eqb s r)),
+      )
+    where
+      fewer : (s t : Bool) → on (not (s || t)) 1 ≤ on (not s) 1
+      fewer true t = omega arith
+      fewer false true = omega arith
+      fewer false false = omega arith
+
+  abbrev FromFewer : ℕ → Type 0
+  FromFewer k = (R : ℕ → Bool) → lacking R < k → ((r : ℕ) → R r ≡ true → Reach N f q r) → R q ≡ true → Reach N f q p
+
+  grow : (k : ℕ) → FromFewer k
+  grow zero R l reached e = absurd (omega arith)
+  grow (suc k) R l reached e = go (R p) refl (grow k)
+    where
+      more : (r : ℕ) → Reach N f q r → (s : ℕ) → (R adding r) s ≡ true → Reach N f q s
+      more r w s h = pick (or-cases (R s) (eqb s r) h)
         where
-          go : Dec (v < w) → w ≤ v
-          go (yes l) = absurd (true≢false (sym (h refl l)))
-          go (no l) = omega arith
-      forward-one false t v w h = omega arith
+          pick : (R s ≡ true) ⊎ (eqb s r ≡ true) → Reach N f q s
+          pick (inl a) = reached s a
+          pick (inr a) = subst (Reach N f q) (sym (eqb-true s r a)) w
 
-      backward-one : (s t : Bool) (v : ℕ) → (t ≡ true → 0 < v → s ≡ true) → on (not s && t) v ≤ 0
-      backward-one true t v h = omega arith
-      backward-one false false v h = omega arith
-      backward-one false true v h = go (decLt 0 v)
-        where
-          go : Dec (0 < v) → v ≤ 0
-          go (yes l) = absurd (true≢false (sym (h refl l)))
-          go (no l) = omega arith
+      go : (t : Bool) → R p ≡ t → FromFewer k → Reach N f q p
+      go true z fewer = reached p z
+      go false z fewer =
+          let h : Further R = further R reached e z in
+          fewer (R adding h .0) (omega (arith, lacks-less R (h .0) (h .1) (h .2))) (more (h .0) (h .3)) (or-left (R q) (eqb q (h .0)) e)
 
--- searching
-unfoldable pub anyTo : ℕ → (ℕ → Bool) → Bool
-anyTo zero P = false
-anyTo (suc n) P = anyTo n P || P n
-
-pub any-found : (n : ℕ) (P : ℕ → Bool) → anyTo n P ≡ true → (i : ℕ) × (i < n) × (P i ≡ true)
-unfolding anyTo
-any-found zero P e = absurd (true≢false (sym e))
-any-found (suc n) P e = go (or-cases (anyTo n P) (P n) e) (any-found n P)
-  where
-    go : (anyTo n P ≡ true) ⊎ (P n ≡ true) → (anyTo n P ≡ true → (i : ℕ) × (i < n) × (P i ≡ true)) → (i : ℕ) × (i < suc n) × (P i ≡ true)
-    go (inl h) ih = let a = ih h in (a .0, omega arith, a .2)
-    go (inr h) ih = (n, omega arith, h)
-
-pub any-made : (n : ℕ) (P : ℕ → Bool) (i : ℕ) → i < n → P i ≡ true → anyTo n P ≡ true
-unfolding anyTo
-any-made zero P i l e = absurd (omega arith)
-any-made (suc n) P i l e = go (eq-or-lt-of-le l) (λ l'. any-made n P i l' e)
-  where
-    go : (suc i ≡ suc n) ⊎ (suc i < suc n) → (i < n → anyTo n P ≡ true) → (anyTo n P || P n) ≡ true
-    go (inl h) ih = or-right (anyTo n P) (P n) (ap P (sym (suc-inj h)) ∙ e)
-    go (inr h) ih = or-left (anyTo n P) (P n) (ih (omega arith))
-
--- the pools reached from q in t steps
-unfoldable pub hit : Network → (ℕ → ℕ) → (ℕ → Bool) → ℕ → ℕ → Bool
-hit N f R p j = (R (N .source j) && (ltb (f j) (N .capacity j) && eqb (N .target j) p)) || (R (N .target j) && (ltb 0 (f j) && eqb (N .source j) p))
-
-unfoldable pub ring : Network → (ℕ → ℕ) → ℕ → ℕ → ℕ → Bool
-ring N f q zero p = eqb p q
-ring N f q (suc t) p = ring N f q t p || anyTo (N .lines) (hit N f (ring N f q t) p)
-
-module _ (N : Network) (f : ℕ → ℕ) (q : ℕ) where
-  ring-reach : (t p : ℕ) → ring N f q t p ≡ true → Reach N f q p
-  unfolding ring hit
-  ring-reach zero p e = subst (Reach N f q) (sym (eqb-true p q e)) here
-  ring-reach (suc t) p e = go (or-cases (ring N f q t p) (anyTo (N .lines) (hit N f (ring N f q t) p)) e) (ring-reach t)
-    where
-      go : (ring N f q t p ≡ true) ⊎ (anyTo (N .lines) (hit N f (ring N f q t) p) ≡ true) → ((r : ℕ) → ring N f q t r ≡ true → Reach N f q r) → Reach N f q p
-      go (inl h) ih = ih p h
-      go (inr h) ih = by (any-found (N .lines) (hit N f (ring N f q t) p) h)
-        where
-          by : (j : ℕ) × (j < N .lines) × (hit N f (ring N f q t) p j ≡ true) → Reach N f q p
-          by a = way (or-cases (ring N f q t (N .source (a .0)) && (ltb (f (a .0)) (N .capacity (a .0)) && eqb (N .target (a .0)) p)) (ring N f q t (N .target (a .0)) && (ltb 0 (f (a .0)) && eqb (N .source (a .0)) p)) (a .2))
-            where
-              way : ((ring N f q t (N .source (a .0)) && (ltb (f (a .0)) (N .capacity (a .0)) && eqb (N .target (a .0)) p)) ≡ true)
-                  ⊎ ((ring N f q t (N .target (a .0)) && (ltb 0 (f (a .0)) && eqb (N .source (a .0)) p)) ≡ true) → Reach N f q p
-              way (inl w) =
-                  let u = and-both (ring N f q t (N .source (a .0))) (ltb (f (a .0)) (N .capacity (a .0)) && eqb (N .target (a .0)) p) w in
-                  let v = and-both (ltb (f (a .0)) (N .capacity (a .0))) (eqb (N .target (a .0)) p) (u .1) in
-                  subst (Reach N f q) (eqb-true (N .target (a .0)) p (v .1)) (along (a .0) (a .1) (ltb-true (f (a .0)) (N .capacity (a .0)) (v .0)) (ih (N .source (a .0)) (u .0)))
-              way (inr w) =
-                  let u = and-both (ring N f q t (N .target (a .0))) (ltb 0 (f (a .0)) && eqb (N .source (a .0)) p) w in
-                  let v = and-both (ltb 0 (f (a .0))) (eqb (N .source (a .0)) p) (u .1) in
-                  subst (Reach N f q) (eqb-true (N .source (a .0)) p (v .1)) (back (a .0) (a .1) (ltb-true 0 (f (a .0)) (v .0)) (ih (N .target (a .0)) (u .0)))
-
-  ring-grows : (t p : ℕ) → ring N f q t p ≡ true → ring N f q (suc t) p ≡ true
-  unfolding ring
-  ring-grows t p e = or-left (ring N f q t p) (anyTo (N .lines) (hit N f (ring N f q t) p)) e
-
-  ring-start : (t : ℕ) → ring N f q t q ≡ true
-  unfolding ring
-  ring-start zero = eq-eqb q q refl
-  ring-start (suc t) = or-left (ring N f q t q) (anyTo (N .lines) (hit N f (ring N f q t) q)) (ring-start t)
-
-  ring-forward : (t j : ℕ) → j < N .lines → ring N f q t (N .source j) ≡ true → f j < N .capacity j → ring N f q (suc t) (N .target j) ≡ true
-  unfolding ring hit
-  ring-forward t j l e h =
-      or-right (ring N f q t (N .target j)) (anyTo (N .lines) (hit N f (ring N f q t) (N .target j)))
-      (any-made (N .lines) (hit N f (ring N f q t) (N .target j)) j l
-      (or-left (ring N f q t (N .source j) && (ltb (f j) (N .capacity j) && eqb (N .target j) (N .target j))) (ring N f q t (N .target j) && (ltb 0 (f j) && eqb (N .source j) (N .target j)))
-      (and-made (ring N f q t (N .source j)) (ltb (f j) (N .capacity j) && eqb (N .target j) (N .target j)) e
-      (and-made (ltb (f j) (N .capacity j)) (eqb (N .target j) (N .target j)) (lt-ltb (f j) (N .capacity j) h) (eq-eqb (N .target j) (N .target j) refl)))))
-
-  ring-backward : (t j : ℕ) → j < N .lines → ring N f q t (N .target j) ≡ true → 0 < f j → ring N f q (suc t) (N .source j) ≡ true
-  unfolding ring hit
-  ring-backward t j l e h =
-      or-right (ring N f q t (N .source j)) (anyTo (N .lines) (hit N f (ring N f q t) (N .source j)))
-      (any-made (N .lines) (hit N f (ring N f q t) (N .source j)) j l
-      (or-right (ring N f q t (N .source j) && (ltb (f j) (N .capacity j) && eqb (N .target j) (N .source j))) (ring N f q t (N .target j) && (ltb 0 (f j) && eqb (N .source j) (N .source j)))
-      (and-made (ring N f q t (N .target j)) (ltb 0 (f j) && eqb (N .source j) (N .source j)) e
-      (and-made (ltb 0 (f j)) (eqb (N .source j) (N .source j)) (lt-ltb 0 (f j) h) (eq-eqb (N .source j) (N .source j) refl)))))
-
-  -- the rings stop growing
-  abbrev Still : ℕ → Type 0
-  Still t = (p : ℕ) → p < N .pools → ring N f q (suc t) p ≡ true → ring N f q t p ≡ true
-
-  unfoldable size : ℕ → ℕ
-  size t = sumTo (N .pools) (λ p. on (ring N f q t p) 1)
-
-  on-up : (s t : Bool) → (s ≡ true → t ≡ true) → on s 1 ≤ on t 1
-  on-up true t h = rw (h refl) (omega arith)
-  on-up false t h = omega arith
-
-  size-le : (t : ℕ) → size t ≤ N .pools
-  unfolding size
-  size-le t = omega (arith, sum-bound (N .pools) 1 (λ p. on (ring N f q t p) 1) (λ p l. on-le (ring N f q t p) 1))
-
-  still-or-more : (t : ℕ) → Still t ⊎ (size t < size (suc t))
-  unfolding size
-  still-or-more t = go (anyTo (N .pools) new) refl
-    where
-      new : ℕ → Bool
-      new p = ring N f q (suc t) p && not (ring N f q t p)
-
-      kept : (s r : Bool) → ((s && not r) ≡ true → ⊥) → s ≡ true → r ≡ true
-      kept true true h e = refl
-      kept true false h e = absurd (h refl)
-      kept false r h e = absurd (true≢false (sym e))
-
-      fresh : (r : Bool) → not r ≡ true → r ≡ false
-      fresh true e = sym e
-      fresh false e = refl
-
-      go : (s : Bool) → anyTo (N .pools) new ≡ s → Still t ⊎ (size t < size (suc t))
-      go false h = inl (λ p l e. kept (ring N f q (suc t) p) (ring N f q t p) (λ z. true≢false (sym (any-made (N .pools) new p l z) ∙ h)) e)
-      go true h =
-          let a = any-found (N .pools) new h in
-          let u = and-both (ring N f q (suc t) (a .0)) (not (ring N f q t (a .0))) (a .2) in
-          let more = sum-le-at (N .pools) (λ p. on (ring N f q t p) 1) (λ p. on (ring N f q (suc t) p) 1) 1 (a .0) (a .1)
-          (rw (u .0, fresh (ring N f q t (a .0)) (u .1)) (omega arith))
-          (λ p l. on-up (ring N f q t p) (ring N f q (suc t) p) (ring-grows t p)) in
-          inr (omega (arith, more))
-
-  still-by : (t : ℕ) → ((s : ℕ) × Still s) ⊎ (t ≤ size t)
-  still-by zero = inr (omega arith)
-  still-by (suc t) = go (still-by t) (still-or-more t)
-    where
-      go : ((s : ℕ) × Still s) ⊎ (t ≤ size t) → Still t ⊎ (size t < size (suc t)) → ((s : ℕ) × Still s) ⊎ (suc t ≤ size (suc t))
-      go (inl h) d = inl h
-      go (inr h) (inl d) = inl (t, d)
-      go (inr h) (inr d) = inr (omega arith)
-
-  still : (s : ℕ) × Still s
-  still = go (still-by (suc (N .pools)))
-    where
-      go : ((s : ℕ) × Still s) ⊎ (suc (N .pools) ≤ size (suc (N .pools))) → (s : ℕ) × Still s
-      go (inl h) = h
-      go (inr h) = absurd (omega (arith, size-le (suc (N .pools))))
-
--- if
-pub slack-reach : (N : Network) → SoundNetwork N → (x f : ℕ → ℕ) → FeasibleUse N x f → (q p : ℕ)
-    → ((S : ℕ → Bool) → S q ≡ true → S p ≡ false → amountIn N x S < cut N S) → Reach N f q p
-slack-reach N ok x f c q p h =
-    let t = still N f q in
-    let R = ring N f q (t .0) in
-    let tight = closed-tight N ok x f c R
-    (λ j l e w. t .1 (N .target j) (ok .target-below j l) (ring-forward N f q (t .0) j l e w))
-    (λ j l e w. t .1 (N .source j) (ok .source-below j l) (ring-backward N f q (t .0) j l e w)) in
-    ring-reach N f q (t .0) p (is-true (R p) (λ z. omega (arith, tight, h R (ring-start N f q (t .0)) z)))
+  pub slack-reach : Reach N f q p
+  slack-reach =
+      grow (suc (lacking (only q))) (only q) (omega arith) (λ r h. subst (Reach N f q) (sym (eqb-true r q h)) here) (eq-eqb q q refl)
 
 -- which pools reach which does not depend on the flows
 pub reach-same : (N : Network) → SoundNetwork N → (x f f' : ℕ → ℕ) → FeasibleUse N x f → FeasibleUse N x f' → (q p : ℕ) → Reach N f q p → Reach N f' q p

@@ -9,17 +9,18 @@ use Rattle.definitions.specs.Book.{Book, capacity}
 use Rattle.definitions.specs.Clearing.{Clearing, Best}
 use Rattle.definitions.specs.Calls.{AcceptedBook}
 use Rattle.laws.specs.AcceptedBook.{Sound, accepted-sound}
-use Rattle.theory.specs.Subsets.{bit, mask, mask-lt, mask-bit}
-use Rattle.theory.specs.Network.{cut, amountIn, cut-ext}
+use Rattle.theory.specs.Subsets.{member, mask, mask-lt, mask-member}
+use Rattle.theory.specs.Network as network
+use Rattle.theory.specs.Network.{amountIn, cut-ext}
 use Rattle.theory.specs.Balance.{FeasibleUse, feasible-same}
-use Rattle.theory.specs.Flows.{slack, amountIn-ext}
+use Rattle.theory.specs.Flows as flows
+use Rattle.theory.specs.Flows.{amountIn-ext}
 use Rattle.theory.specs.Welfare.{turn, clearing-feasible}
 use Rattle.theory.specs.Reach.{Reach, here, along, back, reach-slack, slack-reach, reach-same}
 use Rattle.theory.specs.BookNetwork.{networkOf, byLines, used-is, network-sound, feasible-network}
-use Rattle.theory.specs.CutClearing.{cutUsed}
-use Rattle.theory.specs.BestClearing.{best-used}
-use Rattle.theory.specs.ClosedForms.{member, slackOf, slackAfter}
-use Rattle.theory.specs.ClosedBest.{slack-is, member-is}
+use Rattle.theory.specs.CutClearing.{cutUsed, best-used}
+use Rattle.theory.specs.ClosedForms.{slack, slackAfter}
+use Rattle.theory.specs.ClosedBest.{slack-is}
 
 -- "a pool reaches itself, and one step goes from a to b where line a to b is not full or line b to a carries something"
 pub data Reaches (B : Book) (flow : ℕ → ℕ → ℕ) (q : ℕ) : ℕ → Type 0 where
@@ -46,36 +47,36 @@ module _ (B : Book) (ok : Sound B) (f : ℕ → ℕ → ℕ) (q : ℕ) where
 module _ (B : Book) (h : AcceptedBook B) (c : Clearing) (b : Best B c) where
   use-feasible : FeasibleUse (networkOf B) (cutUsed B) (byLines B (c .flow))
   use-feasible =
-      feasible-same (networkOf B) (turn (networkOf B) (c .accepted)) (cutUsed B) (byLines B (c .flow)) (λ i l. sym (used-is B (c .accepted) i) ∙ best-used B h c b i l)
+      feasible-same (networkOf B) (turn (networkOf B) (c .accepted)) (cutUsed B) (byLines B (c .flow)) (λ i l. sym (used-is B (c .accepted) i) ∙ best-used B (accepted-sound B h) c b i l)
       (clearing-feasible (networkOf B) (c .accepted) (byLines B (c .flow)) (feasible-network B (accepted-sound B h) c (b .feasible)))
 
-  slack-of : (S : ℕ) → slackOf B S ≡ cut (networkOf B) (bit S) - amountIn (networkOf B) (cutUsed B) (bit S)
-  unfolding slackAfter slack
+  slack-of : (S : ℕ) → slack B S ≡ network.cut (networkOf B) (member S) - amountIn (networkOf B) (cutUsed B) (member S)
+  unfolding slackAfter flows.slack
   slack-of S = slack-is B (accepted-sound B h) 0 S
 
   -- pool q reaches pool p exactly if every set that holds q and not p has slack
-  pub reached-slack : (q p : ℕ) → Reaches B (c .flow) q p → (S : ℕ) → member S q ≡ true → member S p ≡ false → 0 < slackOf B S
+  pub reached-slack : (q p : ℕ) → Reaches B (c .flow) q p → (S : ℕ) → member S q ≡ true → member S p ≡ false → 0 < slack B S
   reached-slack q p r S e f =
       omega (
         arith,
         slack-of S,
-        reach-slack (networkOf B) (network-sound B (accepted-sound B h)) (cutUsed B) (byLines B (c .flow)) use-feasible q p (to-lines B (accepted-sound B h) (c .flow) q r) (bit S)
-            (sym (member-is S q) ∙ e) (sym (member-is S p) ∙ f),
+        reach-slack (networkOf B) (network-sound B (accepted-sound B h)) (cutUsed B) (byLines B (c .flow)) use-feasible q p (to-lines B (accepted-sound B h) (c .flow) q r) (member S)
+            e f,
       )
 
-  pub slack-reached : (q p : ℕ) → q < B .m → p < B .m → ((S : ℕ) → S < 2 ^ B .m → member S q ≡ true → member S p ≡ false → 0 < slackOf B S) → Reaches B (c .flow) q p
+  pub slack-reached : (q p : ℕ) → q < B .m → p < B .m → ((S : ℕ) → S < 2 ^ B .m → member S q ≡ true → member S p ≡ false → 0 < slack B S) → Reaches B (c .flow) q p
   slack-reached q p l r s =
       let ok = accepted-sound B h in
       from-lines B ok (c .flow) q
       (slack-reach (networkOf B) (network-sound B ok) (cutUsed B) (byLines B (c .flow)) use-feasible q p (λ S e f.
       let k = mask (B .m) S in
-      let same = mask-bit (B .m) S in
+      let same = mask-member (B .m) S in
       omega (
         arith,
         slack-of k,
-        s k (mask-lt (B .m) S) (member-is k q ∙ same q l ∙ e) (member-is k p ∙ same p r ∙ f),
-        cut-ext (networkOf B) (network-sound B ok) (bit k) S same,
-        amountIn-ext (networkOf B) (cutUsed B) (network-sound B ok) (bit k) S same,
+        s k (mask-lt (B .m) S) (same q l ∙ e) (same p r ∙ f),
+        cut-ext (networkOf B) (network-sound B ok) (member k) S same,
+        amountIn-ext (networkOf B) (cutUsed B) (network-sound B ok) (member k) S same,
       )))
 
 -- which pools reach which does not depend on the flows

@@ -6,9 +6,11 @@ use Prim.Native.Nat.{ℕ, zero, suc, _≤_, _<_}
 use native.Mathlib.Nat.{eq-or-lt-of-le, suc-inj}
 use native.Mathlib.Omega.{arith}
 use native.Mathlib.Decide.{ℕ-discrete}
+use lib.Dec.{eqb}
+use borrow.Author.Tests.{eqb-true, eqb-false}
 use Rattle.definitions.specs.Arithmetic.{on, sumTo}
 use Rattle.laws.specs.Sum.{sum-le, sum-le-at}
-use Rattle.theory.specs.Choices.{on-le}
+use Rattle.theory.specs.Choices.{on-le, search}
 
 pub record StrictTotal (n : ℕ) (before : ℕ → ℕ → Bool) : Type 0 where
   pub irreflexive : (i : ℕ) → i < n → before i i ≡ false
@@ -66,17 +68,11 @@ module _ (n : ℕ) (before : ℕ → ℕ → Bool) (o : StrictTotal n before) wh
 
 -- some i with f i ≡ k, or none
 pub find : (n : ℕ) (f : ℕ → ℕ) (k : ℕ) → ((i : ℕ) × (i < n) × (f i ≡ k)) ⊎ ((i : ℕ) → i < n → f i ≢ k)
-find zero f k = inr (λ i l. absurd (omega arith))
-find (suc n) f k = go (find n f k) (ℕ-discrete (f n) k)
+find n f k = go (search n (λ i. eqb (f i) k))
   where
-    go : ((i : ℕ) × (i < n) × (f i ≡ k)) ⊎ ((i : ℕ) → i < n → f i ≢ k) → Dec (f n ≡ k) → ((i : ℕ) × (i < suc n) × (f i ≡ k)) ⊎ ((i : ℕ) → i < suc n → f i ≢ k)
-    go (inl h) d = inl (h .0, omega arith, h .2)
-    go (inr h) (yes p) = inl (n, omega arith, p)
-    go (inr h) (no p) = inr (λ i l. last i (eq-or-lt-of-le l))
-      where
-        last : (i : ℕ) → (suc i ≡ suc n) ⊎ (suc i < suc n) → f i ≢ k
-        last i (inl e) q = p (ap f (sym (suc-inj e)) ∙ q)
-        last i (inr l) q = h i (omega arith) q
+    go : ((i : ℕ) × (i < n) × (eqb (f i) k ≡ true)) ⊎ ((i : ℕ) → i < n → eqb (f i) k ≡ false) → ((i : ℕ) × (i < n) × (f i ≡ k)) ⊎ ((i : ℕ) → i < n → f i ≢ k)
+    go (inl h) = inl (h .0, h .1, eqb-true (f (h .0)) k (h .2))
+    go (inr h) = inr (λ i l. eqb-false (f i) k (h i l))
 
 module _ (n : ℕ) (before : ℕ → ℕ → Bool) (o : StrictTotal n before) where
   -- y and x are equal at all that comes before i

@@ -1,25 +1,20 @@
 -- Subsets of the first m numbers, as tests and as masks below 2 ^ m, and the least of a function over all of them.
-use mathlib.Core.Path.{_≡_, sym, ap, _∙_}
+use mathlib.Core.Path.{_≡_, ap}
 use mathlib.Core.Bool.{Bool, true, false}
 use mathlib.Core.Logic.{_⊎_, inl, inr}
 use Prim.Native.Nat.{ℕ, zero, suc, _+_, _*_, _≤_, _<_, _/_, _%_, _^_}
 use native.Mathlib.Omega.{arith}
-use native.Mathlib.Nat.{le-trans, le-of-eq, div-one, div-div-eq-div-mul, pow-succ'}
+use native.Mathlib.Nat.{le-trans, le-of-eq}
 use lib.Dec.{eqb}
 use lib.Pow.{pow-pos}
 use Rattle.definitions.specs.Arithmetic.{on}
 use Rattle.laws.specs.Extremes.{minTo, min-le-at, min-attained}
 use Rattle.theory.specs.Choices.{on-le}
 
--- bit p of s
-unfoldable pub bit : ℕ → ℕ → Bool
-bit s zero = eqb (s % 2) 1
-bit s (suc p) = bit (s / 2) p
-
-pub bit-div : (s p : ℕ) → bit s p ≡ eqb (s / 2 ^ p % 2) 1
-unfolding bit
-bit-div s zero = ap (λ (z : ℕ). eqb (z % 2) 1) (sym (div-one s))
-bit-div s (suc p) = bit-div (s / 2) p ∙ ap (λ (z : ℕ). eqb (z % 2) 1) (div-div-eq-div-mul s 2 (2 ^ p) ∙ ap (λ (z : ℕ). s / z) (sym (pow-succ' 2 p)))
+-- s, a set by its binary digits, holds p
+unfoldable pub member : ℕ → ℕ → Bool
+member s zero = eqb (s % 2) 1
+member s (suc p) = member (s / 2) p
 
 -- the mask of a predicate on the first m numbers
 unfoldable pub mask : ℕ → (ℕ → Bool) → ℕ
@@ -39,11 +34,11 @@ unfolding mask
 mask-lt zero P = omega arith
 mask-lt (suc m) P = omega (arith, mask-lt m (λ p. P (suc p)), on-le (P 0) 1)
 
-pub mask-bit : (m : ℕ) (P : ℕ → Bool) (p : ℕ) → p < m → bit (mask m P) p ≡ P p
-unfolding mask bit
-mask-bit zero P p l = absurd (omega arith)
-mask-bit (suc m) P zero l = mask-head (P 0) (mask m (λ p. P (suc p)))
-mask-bit (suc m) P (suc p) l = rw (mask-tail (P 0) (mask m (λ p. P (suc p)))) (mask-bit m (λ p. P (suc p)) p (omega arith))
+pub mask-member : (m : ℕ) (P : ℕ → Bool) (p : ℕ) → p < m → member (mask m P) p ≡ P p
+unfolding mask member
+mask-member zero P p l = absurd (omega arith)
+mask-member (suc m) P zero l = mask-head (P 0) (mask m (λ p. P (suc p)))
+mask-member (suc m) P (suc p) l = rw (mask-tail (P 0) (mask m (λ p. P (suc p)))) (mask-member m (λ p. P (suc p)) p (omega arith))
 
 -- F looks only at the first m numbers
 abbrev pub LooksBelow : ℕ → ((ℕ → Bool) → ℕ) → Type 0
@@ -51,17 +46,17 @@ LooksBelow m F = (P Q : ℕ → Bool) → ((p : ℕ) → p < m → P p ≡ Q p) 
 
 -- the least of F over all subsets of the first m numbers
 unfoldable pub least : ℕ → ((ℕ → Bool) → ℕ) → ℕ
-least m F = minTo (F (bit 0)) (2 ^ m) (λ s. F (bit s))
+least m F = minTo (F (member 0)) (2 ^ m) (λ s. F (member s))
 
-pub least-at : (m : ℕ) (F : (ℕ → Bool) → ℕ) → (s : ℕ) × (s < 2 ^ m) × (least m F ≡ F (bit s))
+pub least-at : (m : ℕ) (F : (ℕ → Bool) → ℕ) → (s : ℕ) × (s < 2 ^ m) × (least m F ≡ F (member s))
 unfolding least
-least-at m F = go (min-attained (F (bit 0)) (2 ^ m) (λ s. F (bit s)))
+least-at m F = go (min-attained (F (member 0)) (2 ^ m) (λ s. F (member s)))
   where
-    go : (least m F ≡ F (bit 0)) ⊎ ((i : ℕ) × (i < 2 ^ m) × (least m F ≡ F (bit i))) → (s : ℕ) × (s < 2 ^ m) × (least m F ≡ F (bit s))
+    go : (least m F ≡ F (member 0)) ⊎ ((i : ℕ) × (i < 2 ^ m) × (least m F ≡ F (member i))) → (s : ℕ) × (s < 2 ^ m) × (least m F ≡ F (member s))
     go (inl p) = (0, pow-pos m, p)
     go (inr p) = p
 
 pub least-le : (m : ℕ) (F : (ℕ → Bool) → ℕ) → LooksBelow m F → (P : ℕ → Bool) → least m F ≤ F P
 unfolding least
 least-le m F e P =
-    le-trans (min-le-at (F (bit 0)) (2 ^ m) (λ s. F (bit s)) (mask m P) (mask-lt m P)) (le-of-eq (e (bit (mask m P)) P (mask-bit m P)))
+    le-trans (min-le-at (F (member 0)) (2 ^ m) (λ s. F (member s)) (mask m P) (mask-lt m P)) (le-of-eq (e (member (mask m P)) P (mask-member m P)))

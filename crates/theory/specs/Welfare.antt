@@ -9,10 +9,10 @@ use borrow.Author.Tests.{le-ltb}
 use Rattle.definitions.specs.Arithmetic.{on, sumTo}
 use Rattle.laws.specs.Sum.{sum-ext, sum-le, sum-add, sum-swap}
 use Rattle.laws.specs.Tests.{Lt?, less, more, lt?}
-use Rattle.theory.specs.Subsets.{bit}
+use Rattle.theory.specs.Subsets.{member}
 use Rattle.theory.specs.Network.{Network, SoundNetwork, demand, amountIn}
 use Rattle.theory.specs.Rank.{total, rank-bound}
-use Rattle.theory.specs.Balance.{only, all, arriving, departing, FeasibleUse, cut-bound, cut-total}
+use Rattle.theory.specs.Balance.{amountIn-same, only, all, arriving, departing, FeasibleUse, cut-bound, cut-total}
 use Rattle.theory.specs.Flows.{lineFlow, flow-feasible}
 use Rattle.theory.specs.Greatest.{bestUsed, best-initial, best-within-cuts, Initial}
 use Rattle.theory.specs.StrictOrder.{StrictTotal}
@@ -34,7 +34,7 @@ levels (suc d) q v = go (lt? d q) (levels d q v)
         let e : min (suc d) q ≡ min d q = omega arith in
         rw e (omega (arith, ih))
 
-unfoldable pub valueOf : Network → (ℕ → ℕ) → (ℕ → ℕ) → ℕ
+unfoldable valueOf : Network → (ℕ → ℕ) → (ℕ → ℕ) → ℕ
 valueOf N price v = sumTo (N .bids) (λ i. price i * v i)
 
 valueOf-levels : (N : Network) (price v : ℕ → ℕ) (d : ℕ) → ((i : ℕ) → i < N .bids → price i ≤ d)
@@ -64,7 +64,7 @@ module _ (N : Network) (ok : SoundNetwork N) (before : ℕ → ℕ → Bool) (o 
       omega (
         arith,
         best-initial N ok before o (λ i. not (ltb t (price i))) (level-initial t),
-        rank-bound N y (c .sizes) (λ s. cut-bound N ok y f c (bit s)) (λ i. not (ltb t (price i))),
+        rank-bound N y (c .sizes) (λ s. cut-bound N ok y f c (member s)) (λ i. not (ltb t (price i))),
         total-split N y (λ i. ltb t (price i)),
         total-split N (bestUsed N before) (λ i. ltb t (price i)),
         wholes,
@@ -74,7 +74,7 @@ module _ (N : Network) (ok : SoundNetwork N) (before : ℕ → ℕ → Bool) (o 
       wholes = unfold total amountIn in best-within-cuts N ok before o .whole ∙ sym (cut-total N ok y f c)
 
   -- no feasible clearing has less of price × used
-  pub best-cheapest : (d : ℕ) → ((i : ℕ) → i < N .bids → price i ≤ d) → (y f : ℕ → ℕ) → FeasibleUse N y f → valueOf N price (bestUsed N before) ≤ valueOf N price y
+  best-cheapest : (d : ℕ) → ((i : ℕ) → i < N .bids → price i ≤ d) → (y f : ℕ → ℕ) → FeasibleUse N y f → valueOf N price (bestUsed N before) ≤ valueOf N price y
   best-cheapest d h y f c =
       omega (arith, valueOf-levels N price (bestUsed N before) d h, valueOf-levels N price y d h, sum-le d _ _ (λ t l. level-le y f c t))
 
@@ -90,7 +90,11 @@ turn-turn N a i h = go (N .purchase i)
     go true = omega arith
     go false = refl
 
-pub turn-size : (N : Network) (a : ℕ → ℕ) (i : ℕ) → a i ≤ N .size i → turn N a i ≤ N .size i
+pub turn-same : (N : Network) (a c : ℕ → ℕ) (i : ℕ) → a i ≡ c i → turn N a i ≡ turn N c i
+unfolding turn
+turn-same N a c i e = ap (λ (z : ℕ). cond (N .purchase i) (N .size i - z) z) e
+
+turn-size : (N : Network) (a : ℕ → ℕ) (i : ℕ) → a i ≤ N .size i → turn N a i ≤ N .size i
 unfolding turn
 turn-size N a i h = go (N .purchase i)
   where
@@ -98,7 +102,7 @@ turn-size N a i h = go (N .purchase i)
     go true = omega arith
     go false = omega arith
 
--- Σ a over the sales in S, over the purchases in S
+-- the sum of a over the sales in S, over the purchases in S
 unfoldable pub soldIn : Network → (ℕ → ℕ) → (ℕ → Bool) → ℕ
 soldIn N a S = sumTo (N .bids) (λ i. on (S (N .pool i) && not (N .purchase i)) (a i))
 
@@ -131,24 +135,16 @@ clearing-feasible N a f c = record {
   balance = λ p l. omega (arith, c .balance p l, turn-amountIn N a (c .sizes) (only p));
 }
 
-back-one : (s t : Bool) (x u : ℕ) → x ≤ u → on (s && not t) (cond t (u - x) x) + on (s && t) u ≡ on s x + on (s && t) (cond t (u - x) x)
-back-one true true x u h = omega arith
-back-one true false x u h = omega arith
-back-one false true x u h = omega arith
-back-one false false x u h = omega arith
-
-turn-back : (N : Network) (x : ℕ → ℕ) → ((i : ℕ) → i < N .bids → x i ≤ N .size i) → (S : ℕ → Bool) → soldIn N (turn N x) S + demand N S ≡ amountIn N x S + boughtIn N (turn N x) S
-unfolding turn amountIn boughtIn soldIn demand
-turn-back N x h S =
-    sym (sum-add (N .bids) _ _)
-    ∙ sum-ext _ _ _ (λ i l. back-one (S (N .pool i)) (N .purchase i) (x i) (N .size i) (h i l))
-    ∙ sum-add (N .bids) _ _
-
-pub feasible-clearing : (N : Network) (x f : ℕ → ℕ) → FeasibleUse N x f → FeasibleAmounts N (turn N x) f
+feasible-clearing : (N : Network) (x f : ℕ → ℕ) → FeasibleUse N x f → FeasibleAmounts N (turn N x) f
 feasible-clearing N x f c = record {
   sizes = λ i l. turn-size N x i (c .sizes i l);
   capacities = c .capacities;
-  balance = λ p l. omega (arith, c .balance p l, turn-back N x (c .sizes) (only p));
+  balance = λ p l. omega (
+    arith,
+    c .balance p l,
+    turn-amountIn N (turn N x) (λ i r. turn-size N x i (c .sizes i r)) (only p),
+    amountIn-same N (turn N (turn N x)) x (λ i r. turn-turn N x i (c .sizes i r)) (only p),
+  );
 }
 
 -- What the purchases pay and the sales take, at these prices. Welfare is the first less the second.
@@ -159,7 +155,7 @@ unfoldable pub taken : Network → (ℕ → ℕ) → (ℕ → ℕ) → ℕ
 taken N price a = sumTo (N .bids) (λ i. on (not (N .purchase i)) (price i * a i))
 
 -- all that the purchases could pay
-unfoldable pub worth : Network → (ℕ → ℕ) → ℕ
+unfoldable worth : Network → (ℕ → ℕ) → ℕ
 worth N price = sumTo (N .bids) (λ i. on (N .purchase i) (price i * N .size i))
 
 pay-one : (t : Bool) (p a u : ℕ) → a ≤ u → on t (p * a) + p * cond t (u - a) a ≡ on t (p * u) + on (not t) (p * a)
@@ -168,7 +164,7 @@ pay-one true p a u h =
     omega (arith, mul-add p a (u - a), ap (λ (z : ℕ). p * z) e)
 pay-one false p a u h = omega arith
 
-pub welfare-value : (N : Network) (price a : ℕ → ℕ) → ((i : ℕ) → i < N .bids → a i ≤ N .size i) → paid N price a + valueOf N price (turn N a) ≡ worth N price + taken N price a
+welfare-value : (N : Network) (price a : ℕ → ℕ) → ((i : ℕ) → i < N .bids → a i ≤ N .size i) → paid N price a + valueOf N price (turn N a) ≡ worth N price + taken N price a
 unfolding paid valueOf worth taken turn
 welfare-value N price a h =
     sym (sum-add (N .bids) _ _)

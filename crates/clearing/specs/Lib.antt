@@ -1,2 +1,0 @@
--- What clearing gives, and demand 3.
-pub mod Demand3
