@@ -36,6 +36,7 @@ pub record Sound (B : Book) : Type 0 where
   pub pool-index : (i : ℕ) → i < B .n → poolIndex B i < B .m
   pub price-is : (i : ℕ) → i < B .n → price B i +ℤ pos priceLimit ≡ pos (raisedPrice B i)
   pub price-small : (i : ℕ) → i < B .n → raisedPrice B i ≤ 2 * priceLimit
+  pub price-size : (i : ℕ) → i < B .n → natAbs (price B i) ≤ priceLimit
   pub size-small : (i : ℕ) → i < B .n → size B i ≤ quantityLimit
   pub capacity-is : (a b : ℕ) → a < B .m → b < B .m → capacityEntry B a b ≡ pos (capacity B a b)
   pub capacity-small : (a b : ℕ) → a < B .m → b < B .m → capacity B a b ≤ capacityLimit
@@ -136,6 +137,7 @@ module _ (B : Book) (accepted : AcceptedBook B) where
     pool-index = λ i l. in-pools (B .m) (pool B i) (right-bid i l .in-range) .1;
     price-is = λ i l. raised 29999 (price B i) (right-bid i l .priced) .0;
     price-small = λ i l. raised 29999 (price B i) (right-bid i l .priced) .1;
+    price-size = λ i l. in-size 29999 (price B i) (right-bid i l .priced);
     size-small = λ i l. in-size 65534 (quantity B i) (right-bid i l .sized);
     capacity-is = λ a b l r. sound-entry (eqb a b) (capacityEntry B a b) (right-entry a b l r) .0;
     capacity-small = λ a b l r. sound-entry (eqb a b) (capacityEntry B a b) (right-entry a b l r) .1;

@@ -1,24 +1,21 @@
 -- The phases that fill the constants and each bid's own numbers.
-use mathlib.Core.Path.{_≡_, refl, sym, ap, _∙_}
-use mathlib.Core.Bool.{Bool, true, false, cond}
-use mathlib.Core.List.{List, [], _∷_, _++_}
-use Prim.Native.Nat.{ℕ, zero, suc, _+_, _*_, _≤_, _<_}
+use mathlib.Core.Path.{_≡_, refl, ap, _∙_}
+use mathlib.Core.Bool.{Bool, true, false}
+use mathlib.Core.List.{[], _∷_}
+use Prim.Native.Nat.{ℕ, suc, _+_, _*_, _≤_, _<_}
 use native.Mathlib.Omega.{arith}
 use lib.Dec.{eqb, eqb·suc-suc, lit<}
-use Rattle.definitions.specs.Limits.{quantityLimit, modulus}
 use Rattle.definitions.specs.Arithmetic.{on, residue}
 use lib.IntN.{ℤ}
 use Rattle.definitions.specs.Machine.{sameAs}
 use Rattle.definitions.specs.Book.{Book, pool, price, quantity, purchase, size}
 use Rattle.laws.specs.AcceptedBook.{poolIndex, raisedPrice, Sound}
-use Rattle.plan.specs.Orders.{run, State}
 use Rattle.plan.specs.Residues.{plus-small, times-on, positive-residue, size-residue, raise-residue}
 use Rattle.plan.specs.Loops.{loop, eqb-same}
 use Rattle.plan.specs.Holds.{Phase, fill-column, fill-cells}
 use Rattle.plan.specs.Names.{bids, blanks, units, shifts, poolNumbers, sides, sizes, rates, doubles, keys, nexts, places, weights, temporaries}
 use Rattle.plan.specs.Values.{tables, rate, side}
 use Rattle.plan.specs.Blocks.{unitBlock, shiftBlock, poolNumberBlock, sideBlock, sizeBlock, rateBlock, doubleBlock, keyBlock, nextBlock, placeBlock, weightBlock}
-use Rattle.plan.specs.Bounds.{on-le}
 
 key-small : (t : Bool) (v : ℕ) → 2 * v + on t 1 ≤ 2 * v + 1
 key-small true v = omega arith

@@ -1,5 +1,4 @@
 -- Every number that the plan computes of a sound book is below half the modulus, so that nothing wraps. What the theory has to add is `Theory`.
-use mathlib.Core.Path.{_≡_, refl}
 use mathlib.Core.Bool.{Bool, true, false, not, cond, _&&_}
 use Prim.Native.Nat.{ℕ, zero, suc, _+_, _-_, _*_, _%_, _/_, _^_, _≤_, _<_}
 use native.Mathlib.Nat.{mul-le-mul-right}
@@ -9,8 +8,8 @@ use Rattle.definitions.specs.Limits.{bidLimit, poolLimit, priceLimit, quantityL
 use Rattle.definitions.specs.Arithmetic.{on, sumTo}
 use Rattle.definitions.specs.Book.{Book, purchase, sale, size, capacity}
 use Rattle.definitions.specs.Clearing.{before}
-use Rattle.laws.specs.Sum.{sum-bound, sum-le}
-use Rattle.laws.specs.Extremes.{minTo, min-le-start}
+use Rattle.laws.specs.Sum.{sum-bound}
+use Rattle.laws.specs.Extremes.{min-le-start}
 use Rattle.laws.specs.AcceptedBook.{poolIndex, Sound}
 use Rattle.plan.specs.Subsets.{member, leaves, subsetSum, subset-le}
 use Rattle.plan.specs.Running.{max-below}

@@ -1,35 +1,35 @@
 -- The run of the plan from the sealed sheet of a sound book leaves the closed forms in document 01's result cells, inputs as sealed and 0 in scratch (`plan-clears`).
-use mathlib.Core.Path.{_≡_, refl, sym, ap, subst, _∙_}
+use mathlib.Core.Path.{_≡_, refl, ap, subst, _∙_}
 use mathlib.Core.Logic.{_≢_}
-use mathlib.Core.Bool.{Bool, true, false}
-use mathlib.Core.List.{List, [], _∷_, _++_, map, map-append}
+use mathlib.Core.Bool.{Bool, true}
+use mathlib.Core.List.{List, _++_, map, map-append}
 use Prim.Native.Nat.{ℕ, zero, suc, _+_, _-_, _*_, _≤_, _<_}
 use native.Mathlib.Nat.{le-refl}
 use native.Mathlib.Omega.{arith}
-use lib.Dec.{lit<, lit≤}
+use lib.Dec.{lit<}
 use lib.Arith.{digits-lt}
-use lib.ListN.{length, getD, set}
+use lib.ListN.{length, set}
 use lib.Seq.{getD-set-same, getD-set-other}
 use Rattle.definitions.specs.declared.Order.{Order}
-use Rattle.definitions.specs.Limits.{bidLimit, poolLimit, cellCount, modulus}
+use Rattle.definitions.specs.Limits.{cellCount, modulus}
 use Rattle.definitions.specs.Arithmetic.{sumTo}
 use Rattle.definitions.specs.Book.{Book}
 use Rattle.definitions.specs.Sheet.{sealedSheet, firstResult, amountCell, flowCell, priceCell, presenceCell, firstScratch}
 use Rattle.definitions.specs.Machine.{cell, runOf}
 use Rattle.laws.specs.Tests.{Lt?, less, more, lt?}
 use Rattle.laws.specs.AcceptedBook.{Sound}
-use Rattle.plan.specs.Orders.{OrderOn, constant, operate, target, orderOf, renamed, Name, at, State, run}
+use Rattle.plan.specs.Orders.{OrderOn, constant, operate, target, orderOf, renamed, Name, at, run}
 use Rattle.plan.specs.Loops.{loop, listed}
-use Rattle.plan.specs.Names.{bids, capacities, amounts, flows, prices, temporaries, familyCount, rowsOf, columnsOf}
-use Rattle.plan.specs.Layout.{base, address, Named, address-below, address-apart}
+use Rattle.plan.specs.Names.{bids, amounts, flows, prices, temporaries, familyCount, rowsOf, columnsOf}
+use Rattle.plan.specs.Layout.{address-below, address-apart}
 use Rattle.plan.specs.Simulation.{run-on, run-length, run-other, AllNamed, run-agrees}
-use Rattle.plan.specs.Tree.{flat, All, all-imply, every-flat}
+use Rattle.plan.specs.Tree.{flat, all-imply, every-flat}
 use Rattle.plan.specs.Values.{tables, acceptedAmount, lineFlow, priceCells}
 use Rattle.plan.specs.Bounds.{Theory}
 use Rattle.plan.specs.Work.{work}
 use Rattle.plan.specs.Whole.{outputs, work-done}
 use Rattle.plan.specs.Proper.{Valid, Proper, work-proper}
-use Rattle.plan.specs.Plan.{from, from-result, from-scratch, from-end, cellOf, scratchCount, zeroBlock, numbered, plan, Writable, WritesWell, numbered-writes, names-fit}
+use Rattle.plan.specs.Plan.{from, from-scratch, from-end, cellOf, scratchCount, zeroBlock, numbered, plan, Writable, WritesWell, numbered-writes, names-fit}
 use Rattle.plan.specs.Sealed.{sealedState, sealed-length, sealed-zero, sealed-inputs}
 
 -- what the sheet r holds when book B is cleared, by document 01's cells

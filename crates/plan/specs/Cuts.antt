@@ -1,24 +1,24 @@
 -- The phases that fill the demands and the cuts.
-use mathlib.Core.Path.{_≡_, refl, sym, ap, _∙_}
+use mathlib.Core.Path.{_≡_, refl, ap, _∙_}
 use mathlib.Core.Bool.{Bool, true, false, cond}
-use mathlib.Core.List.{List, [], _∷_, _++_}
-use Prim.Native.Nat.{ℕ, zero, suc, _+_, _*_, _^_, _≤_, _<_}
+use mathlib.Core.List.{[], _∷_, _++_}
+use Prim.Native.Nat.{ℕ, _+_, _^_, _<_}
 use native.Mathlib.Omega.{arith}
-use lib.Dec.{eqb, lit<}
+use lib.Dec.{lit<}
 use lib.Arith.{lt-one}
 use Rattle.definitions.specs.Limits.{modulus}
 use Rattle.definitions.specs.Arithmetic.{on, sumTo}
 use Rattle.definitions.specs.Book.{Book, purchase, capacity}
 use Rattle.laws.specs.AcceptedBook.{Sound}
-use Rattle.plan.specs.Orders.{OrderOn, constant, sum, Name, run, State}
+use Rattle.plan.specs.Orders.{constant, sum, Name, run, State}
 use Rattle.plan.specs.Residues.{plus-small, times-on}
 use Rattle.plan.specs.Loops.{loop, among, writes, writes-loop, keep, eqb-same}
 use Rattle.plan.specs.Holds.{Holds, Phase, holds-keep, holds-part, fill-column, fill-after}
 use Rattle.plan.specs.Names.{capacities, blanks, sides, weights, demands, subsets, cuts, temporaries, Blank, Demand, Subset, Cut, Capacity}
-use Rattle.plan.specs.Subsets.{leaves, subsetSum, subset-le}
+use Rattle.plan.specs.Subsets.{leaves, subsetSum}
 use Rattle.plan.specs.Running.{Adds, accumulate, gather, subsetBlock, subset-frame, subset-sums}
 use Rattle.plan.specs.Values.{tables, weight, demand, cut}
-use Rattle.plan.specs.Blocks.{Block, demandTurn, demandBlock, subsetBlocks, cutTurn, cutBlock}
+use Rattle.plan.specs.Blocks.{demandTurn, demandBlock, subsetBlocks, cutTurn, cutBlock}
 use Rattle.plan.specs.Bounds.{weight-small, demand-small, demands-small, cut-small}
 
 -- a cell, or the blank one where the test fails

@@ -24,3 +24,9 @@ pub mod Proper
 pub mod Plan
 pub mod Sealed
 pub mod Cleared
+pub mod Digits
+pub mod Walk
+pub mod List
+pub mod Answer
+pub mod Asking
+pub mod Collected

@@ -1,5 +1,5 @@
 -- The phases that fill the placements, the slacks and the flows; the slacks change from line to line.
-use mathlib.Core.Path.{_≡_, refl, sym, ap, _∙_}
+use mathlib.Core.Path.{_≡_, refl, ap, _∙_}
 use mathlib.Core.Logic.{_≢_, _⊎_, inl, inr}
 use mathlib.Core.Bool.{Bool, true, false, not, cond}
 use mathlib.Core.List.{List, [], _∷_, _++_}
@@ -9,16 +9,16 @@ use native.Mathlib.Omega.{arith}
 use lib.Arith.{lt-one}
 use lib.Dec.{eqb, lit<}
 use borrow.Author.Tests.{ne-eqb}
-use Rattle.definitions.specs.Limits.{modulus, greatestPositive, poolLimit}
+use Rattle.definitions.specs.Limits.{poolLimit}
 use Rattle.definitions.specs.Arithmetic.{on, sumTo}
 use Rattle.definitions.specs.Book.{Book, capacity}
 use Rattle.laws.specs.Extremes.{minTo, min-le-start}
 use Rattle.laws.specs.AcceptedBook.{poolIndex, Sound}
-use Rattle.plan.specs.Orders.{OrderOn, constant, sum, difference, Name, same, run, State}
+use Rattle.plan.specs.Orders.{constant, sum, difference, Name, same, run, State}
 use Rattle.plan.specs.Residues.{plus-small, minus-small, times-on, min-small}
 use Rattle.plan.specs.Loops.{loop, run-append, loop-invariant, among, writes, writes-append, writes-loop, keep, keep-loop, eqb-same, loop-own}
 use Rattle.plan.specs.Holds.{Holds, Phase, holds-keep, holds-part, fill-column, fill-after}
-use Rattle.plan.specs.Names.{capacities, blanks, places, subsets, cuts, uses, placements, slacks, flows, temporaries, Blank, Temporary, Capacity, Flow, Subset, Cut, Placement, Slack}
+use Rattle.plan.specs.Names.{capacities, blanks, places, subsets, cuts, uses, placements, slacks, flows, temporaries, Blank, Temporary, Capacity, Flow, Subset, Placement, Slack}
 use Rattle.plan.specs.Subsets.{leaves, subsetSum}
 use Rattle.plan.specs.Running.{accumulate, gather, Lowers, lower, lowered, subset-sums}
 use Rattle.plan.specs.Values.{tables, cut, usedAmount, placement, slack, restOf, flowOf, takenOf, slackAfter, lineFlow}

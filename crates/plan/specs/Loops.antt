@@ -1,14 +1,14 @@
 -- Loops of blocks: their run, and what a list of orders leaves alone (`keep`, `loop-only`).
 use mathlib.Core.Path.{_≡_, refl, sym, ap, _∙_}
 use mathlib.Core.Logic.{_≢_, _⊎_, inl, inr}
-use mathlib.Core.Bool.{Bool, true, false, not, cond, _&&_, _||_, true≢false, false≢true}
+use mathlib.Core.Bool.{Bool, true, false, cond, _&&_, _||_, true≢false, false≢true}
 use mathlib.Core.List.{List, [], _∷_, _++_}
-use Prim.Native.Nat.{ℕ, zero, suc, _+_, _*_, _≤_, _<_}
+use Prim.Native.Nat.{ℕ, zero, suc, _+_, _<_}
 use native.Mathlib.Nat.{not-suc-le-zero, eq-or-lt-of-le, le-of-suc-le-suc, le-refl}
 use native.Mathlib.Omega.{arith}
 use lib.Dec.{eqb}
 use borrow.Author.Tests.{eq-eqb, eqb-true}
-use Rattle.plan.specs.Orders.{OrderOn, target, outcome, Name, at, family, row, same, State, step, run}
+use Rattle.plan.specs.Orders.{OrderOn, target, outcome, Name, at, family, same, State, step, run}
 
 -- block 0, then block 1, up to block k - 1
 module _ {A : Type 0} where

@@ -108,21 +108,23 @@ abbrev pub familyCount : ℕ
 familyCount = 30
 
 -- rows and columns of each family, in the families' order
+abbrev pub rowTable : (n m lines sets : ℕ) → List ℕ
+rowTable n m lines sets =
+    n ∷ m ∷ n ∷ lines ∷ m ∷ 3 ∷ 1 ∷ 1 ∷ 1 ∷ m
+    ∷ n ∷ n ∷ n ∷ n ∷ n ∷ n ∷ n ∷ n ∷ m ∷ sets
+    ∷ sets ∷ n ∷ n ∷ n ∷ n ∷ n ∷ m ∷ sets ∷ n ∷ m ∷ []
+
+abbrev pub columnTable : (n m : ℕ) → List ℕ
+columnTable n m =
+    bidNumbers ∷ m ∷ 1 ∷ 1 ∷ 2 ∷ 1 ∷ 1 ∷ 1 ∷ 1 ∷ 1
+    ∷ 1 ∷ 1 ∷ 1 ∷ 1 ∷ 1 ∷ 1 ∷ m ∷ m ∷ 1 ∷ 1
+    ∷ 1 ∷ m ∷ 1 ∷ m ∷ 1 ∷ 1 ∷ 1 ∷ 1 ∷ 1 ∷ 1 ∷ []
+
 abbrev pub rowsOf : (n m t : ℕ) → ℕ
-rowsOf n m t =
-    getD
-    (n ∷ m ∷ n ∷ m * m ∷ m ∷ 3 ∷ 1 ∷ 1 ∷ 1 ∷ m
-    ∷ n ∷ n ∷ n ∷ n ∷ n ∷ n ∷ n ∷ n ∷ m ∷ 2 ^ m
-    ∷ 2 ^ m ∷ n ∷ n ∷ n ∷ n ∷ n ∷ m ∷ 2 ^ m ∷ n ∷ m ∷ [])
-    t 0
+rowsOf n m t = getD (rowTable n m (m * m) (2 ^ m)) t 0
 
 abbrev pub columnsOf : (n m t : ℕ) → ℕ
-columnsOf n m t =
-    getD
-    (bidNumbers ∷ m ∷ 1 ∷ 1 ∷ 2 ∷ 1 ∷ 1 ∷ 1 ∷ 1 ∷ 1
-    ∷ 1 ∷ 1 ∷ 1 ∷ 1 ∷ 1 ∷ 1 ∷ m ∷ m ∷ 1 ∷ 1
-    ∷ 1 ∷ m ∷ 1 ∷ m ∷ 1 ∷ 1 ∷ 1 ∷ 1 ∷ 1 ∷ 1 ∷ [])
-    t 0
+columnsOf n m t = getD (columnTable n m) t 0
 
 -- ---- inputs and results
 

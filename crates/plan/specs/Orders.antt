@@ -1,13 +1,13 @@
 -- Orders over any cells, by name or by number, and the machine's run over names. Over numbers they are the unit's orders (`orderOf`).
-use Prim.Native.Nat.{ℕ, zero, suc}
+use Prim.Native.Nat.{ℕ}
 use mathlib.Core.Path.{_≡_, refl}
 use mathlib.Core.Bool.{Bool, cond, _&&_}
-use mathlib.Core.List.{List, [], _∷_, map}
+use mathlib.Core.List.{List, [], _∷_}
 use lib.Dec.{eqb}
 use lib.ListN.{set}
 use Rattle.definitions.specs.declared.Order.{Order}
 use Rattle.definitions.specs.declared.Order.the-variants as unit
-use Rattle.definitions.specs.Machine.{cell, plus, minus, times, lessThan, sameAs, stepOf, runOf}
+use Rattle.definitions.specs.Machine.{cell, plus, minus, times, lessThan, sameAs, stepOf}
 
 -- the five kinds of order that read two cells
 pub data Operation : Type 0 where

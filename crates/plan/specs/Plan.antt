@@ -1,11 +1,10 @@
 -- The plan of n bids and m pools: a list of the machine's orders, its length in closed form, and its order at a position (`plan-entry`).
-use mathlib.Core.Path.{_≡_, refl, sym, ap, _∙_}
-use mathlib.Core.Bool.{Bool, true, false, cond}
+use mathlib.Core.Path.{_≡_, refl, ap, _∙_}
+use mathlib.Core.Bool.{Bool, cond}
 use mathlib.Core.List.{List, [], _∷_, _++_, map}
-use Prim.Native.Nat.{ℕ, zero, suc, _+_, _-_, _*_, _%_, _/_, _^_, _≤_, _<_}
+use Prim.Native.Nat.{ℕ, zero, suc, _+_, _-_, _*_, _^_, _≤_, _<_}
 use native.Mathlib.Omega.{arith}
-use native.Mathlib.Nat.{mul-le-mul-right}
-use lib.Dec.{ltb, lit<}
+use lib.Dec.{ltb}
 use lib.ListN.{length, getD, length-append, length-map, List·getD-append, List·getD-map}
 use lib.Seq.{getD-append-add}
 use Rattle.definitions.specs.declared.Order.{Order}
@@ -18,8 +17,8 @@ use Rattle.laws.specs.Tests.{Lt?, less, more, lt?}
 use Rattle.plan.specs.Orders.{OrderOn, constant, operate, Operation, adding, subtracting, multiplying, comparing, equating, target, orderOf, renamed, Name, at, family}
 use Rattle.plan.specs.Loops.{loop}
 use Rattle.plan.specs.Names.{amounts, temporaries, familyCount, rowsOf, columnsOf, Blank}
-use Rattle.plan.specs.Layout.{base, address, Named, address-below, base-grows}
-use Rattle.plan.specs.Tree.{Tree, orders, seq, rep, blocks, flat, size, entry, flat-length, flat-entry, length-loop, single-entry, All, all-append, all-loop, all-map, Every, every-flat}
+use Rattle.plan.specs.Layout.{base, address, address-below, base-grows}
+use Rattle.plan.specs.Tree.{flat, size, entry, flat-length, flat-entry, length-loop, single-entry, All, all-append, all-loop, all-map, every-flat}
 use Rattle.plan.specs.Work.{work}
 use Rattle.plan.specs.Proper.{Valid, Proper, work-proper, work-fair}
 

@@ -1,21 +1,21 @@
 -- The phases that fill the offers, the greatest offer of each pool, and the pools' price and presence cells.
-use mathlib.Core.Path.{_≡_, refl, sym, ap, _∙_}
-use mathlib.Core.Bool.{Bool, true, false, not, cond, _&&_}
-use mathlib.Core.List.{List, [], _∷_, _++_}
-use Prim.Native.Nat.{ℕ, zero, suc, _+_, _-_, _*_, _≤_, _<_, max}
+use mathlib.Core.Path.{_≡_, refl}
+use mathlib.Core.Bool.{Bool, true, false, not, _&&_}
+use mathlib.Core.List.{[], _∷_}
+use Prim.Native.Nat.{ℕ, zero, suc, _-_, _≤_, _<_}
 use native.Mathlib.Omega.{arith}
 use lib.Dec.{ltb, eqb, lit<, lit≤}
 use Rattle.definitions.specs.Limits.{modulus, greatestPositive, priceLimit}
 use Rattle.definitions.specs.Arithmetic.{on}
-use Rattle.definitions.specs.Book.{Book, purchase, sale}
+use Rattle.definitions.specs.Book.{Book, purchase}
 use Rattle.definitions.specs.Machine.{minus, times}
 use Rattle.laws.specs.AcceptedBook.{poolIndex, Sound}
-use Rattle.plan.specs.Orders.{OrderOn, constant, Name, at, run, State}
+use Rattle.plan.specs.Orders.{constant, at, run, State}
 use Rattle.plan.specs.Residues.{times-on, on-times, less-small, max-small}
-use Rattle.plan.specs.Loops.{loop, writes, writes-loop, eqb-same}
+use Rattle.plan.specs.Loops.{loop, writes-loop, eqb-same}
 use Rattle.plan.specs.Holds.{Holds, Phase, holds-keep, fill-column, fill-rows}
-use Rattle.plan.specs.Names.{blanks, units, shifts, sides, rates, places, amounts, offers, peaks, prices, temporaries, Blank, Peak}
-use Rattle.plan.specs.Running.{Raises, raise, max-below}
+use Rattle.plan.specs.Names.{blanks, units, shifts, sides, rates, places, amounts, offers, peaks, prices, temporaries, Peak}
+use Rattle.plan.specs.Running.{Raises, raise}
 use Rattle.plan.specs.Values.{tables, rate, acceptedAmount, offer, peak, priceCells}
 use Rattle.plan.specs.Blocks.{offerBlock, peakTurn, peakBlock, priceBlock}
 use Rattle.plan.specs.Bounds.{Theory, on-le, accepted-small, offer-small, peak-small}

@@ -1,23 +1,21 @@
 -- Every order of the work names cells of the families' tables and writes no input (`work-proper`); each loop's blocks have one length (`work-fair`).
-use mathlib.Core.Path.{_≡_, refl, sym, ap, _∙_}
-use mathlib.Core.Logic.{_≢_}
+use mathlib.Core.Path.{refl}
 use mathlib.Core.Bool.{Bool, true, false, cond}
-use mathlib.Core.List.{List, [], _∷_, _++_}
-use Prim.Native.Nat.{ℕ, zero, suc, _+_, _-_, _*_, _%_, _/_, _^_, _≤_, _<_}
+use mathlib.Core.List.{[], _∷_}
+use Prim.Native.Nat.{ℕ, _-_, _*_, _%_, _/_, _^_, _≤_, _<_}
 use native.Mathlib.Omega.{arith}
-use lib.Dec.{ltb, eqb, lit<}
-use lib.ListN.{length}
-use Rattle.definitions.specs.Limits.{modulus, greatestPositive}
+use lib.Dec.{ltb, lit<}
+use Rattle.definitions.specs.Limits.{modulus}
 use Rattle.laws.specs.Tests.{Eq?, same, diff, eq?}
 use Rattle.plan.specs.Orders.{OrderOn, constant, operate, Name, at, family}
 use Rattle.plan.specs.Layout.{Named}
-use Rattle.plan.specs.Names.{amounts, lows, highs, familyCount, rowsOf, columnsOf, Capacity, Temporary, Blank, Demand, Ahead, Low, Reach, High, Placement}
+use Rattle.plan.specs.Names.{amounts, lows, highs, familyCount, rowsOf, columnsOf, Capacity, Temporary, Blank, Demand, Ahead, Reach, Placement}
 use Rattle.plan.specs.Subsets.{leaves, lowest, others, lowest-below, others-below}
-use Rattle.plan.specs.Running.{subsetOrder, subsetBlock, lowered}
-use Rattle.plan.specs.Blocks.{testAt, testOrder, costTurn, restCell, restTurn, takenCell, takeTurn}
+use Rattle.plan.specs.Running.{subsetOrder, lowered}
+use Rattle.plan.specs.Blocks.{testAt, testOrder, restCell, takenCell}
 use Rattle.plan.specs.Lines.{line-ends}
-use Rattle.plan.specs.Tree.{orders, seq, rep, size, All, Every, Fair}
-use Rattle.plan.specs.Work.{Orders, bidTree, cutsTree, subsetTree, rankTree, rankTrees, aheadTree, flowTree, lineTree, priceTree, work}
+use Rattle.plan.specs.Tree.{All, Every, Fair}
+use Rattle.plan.specs.Work.{bidTree, cutsTree, subsetTree, rankTree, rankTrees, flowTree, lineTree, priceTree, work}
 
 module _ (n m : ℕ) where
   -- a name that has a cell

@@ -1,34 +1,32 @@
 -- The phases that fill the ranks, the used and the accepted amounts.
-use mathlib.Core.Path.{_≡_, refl, sym, ap, _∙_}
-use mathlib.Core.Logic.{_≢_}
+use mathlib.Core.Path.{_≡_, refl, ap, _∙_}
 use mathlib.Core.Bool.{Bool, true, false, not, cond}
-use mathlib.Core.List.{List, [], _∷_, _++_}
-use Prim.Native.Nat.{ℕ, zero, suc, _+_, _-_, _*_, _^_, _≤_, _<_, min}
+use mathlib.Core.List.{List, [], _∷_}
+use Prim.Native.Nat.{ℕ, zero, suc, _+_, _-_, _*_, _^_, _≤_, _<_}
 use native.Mathlib.Nat.{le-refl}
 use native.Mathlib.Omega.{arith}
-use lib.Dec.{ltb, eqb, lit<, lit≤}
-use lib.Arith.{lt-one}
+use lib.Dec.{ltb, eqb, lit<}
 use borrow.Author.Tests.{ne-eqb}
-use Rattle.definitions.specs.Limits.{modulus, greatestPositive, quantityLimit}
+use Rattle.definitions.specs.Limits.{greatestPositive, quantityLimit}
 use Rattle.definitions.specs.Arithmetic.{on, sumTo}
 use Rattle.definitions.specs.Book.{Book, purchase, size}
-use Rattle.definitions.specs.Machine.{plus, minus, times, lessThan}
+use Rattle.definitions.specs.Machine.{plus, minus, times}
 use Rattle.definitions.specs.Clearing.{before}
 use Rattle.laws.specs.Sum.{sum-prefix, sum-le}
 use Rattle.laws.specs.Extremes.{minTo}
 use Rattle.laws.specs.AcceptedBook.{Sound}
-use Rattle.plan.specs.Orders.{OrderOn, constant, sum, Name, at, same, run, State}
-use Rattle.plan.specs.Residues.{plus-small, minus-small, times-on, on-times, less-small, min-small}
-use Rattle.plan.specs.Loops.{loop, run-append, loop-invariant, among, writes, writes-append, writes-loop, keep, eqb-same, same-self, loop-own}
+use Rattle.plan.specs.Orders.{constant, Name, at, same, run, State}
+use Rattle.plan.specs.Residues.{plus-small, minus-small, times-on, less-small, min-small}
+use Rattle.plan.specs.Loops.{loop, run-append, loop-invariant, among, writes, writes-append, writes-loop, keep, eqb-same, loop-own}
 use Rattle.plan.specs.Holds.{Holds, Phase, holds-keep, holds-part, touches, touches-among, fill-column, fill-rows, fill-cells}
-use Rattle.plan.specs.Names.{blanks, sides, sizes, doubles, keys, nexts, weights, subsets, cuts, aheads, lows, reaches, highs, uses, amounts, temporaries, Blank, Temporary, Weight, Subset, Cut, Ahead, Low, Reach, High}
+use Rattle.plan.specs.Names.{blanks, sides, sizes, doubles, keys, nexts, weights, subsets, cuts, aheads, lows, reaches, highs, uses, amounts, temporaries, Temporary, Weight, Subset, Ahead, Reach}
 use Rattle.plan.specs.Subsets.{member, complement, subsetSum, subset-outside}
-use Rattle.plan.specs.Running.{Lowers, lower, lowered, subset-sums}
+use Rattle.plan.specs.Running.{Lowers, lower, subset-sums}
 use Rattle.plan.specs.Values.{tables, rate, key, weight, cut, ahead, reach, rank, usedAmount, acceptedAmount}
 use Rattle.plan.specs.Blocks.{Block, testAt, testOrder, gain, aheadTurn, aheadStart, aheadBlock, subsetBlocks, costTurn, costLoop, rankBlock, lowBlock, reachBlock, highBlock, useBlock, amountBlock}
 use Rattle.plan.specs.Merit.{keyTest, test-is-before}
 use Rattle.plan.specs.Cuts.{subsets-frame}
-use Rattle.plan.specs.Bounds.{Theory, on-le, sizeTotal, sum-limit, weight-small, ahead-small, reach-small, cost-small, cut-small, rank-small, used-small}
+use Rattle.plan.specs.Bounds.{Theory, on-le, sizeTotal, sum-limit, weight-small, ahead-small, reach-small, cost-small, rank-small}
 
 min-mono : (d k : ℕ) (f h : ℕ → ℕ) → ((i : ℕ) → i < k → f i ≤ h i) → minTo d k f ≤ minTo d k h
 unfolding minTo

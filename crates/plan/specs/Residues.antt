@@ -1,16 +1,15 @@
 -- What the orders make of small numbers (nothing wraps, and the signed order is the order) and of the residues that sealing writes.
-use mathlib.Core.Path.{_≡_, refl, sym, ap, _∙_}
+use mathlib.Core.Path.{_≡_, refl, ap}
 use mathlib.Core.Bool.{Bool, true, false, cond}
-use Prim.Native.Nat.{ℕ, zero, suc, _+_, _-_, _*_, _%_, _≤_, _<_, min, max}
+use Prim.Native.Nat.{ℕ, zero, suc, _+_, _-_, _*_, _≤_, _<_, min, max}
 use native.Mathlib.Omega.{arith}
-use native.Mathlib.Nat.{mod-eq-of-lt}
-use lib.Dec.{ltb, eqb}
-use lib.IntN.{ℤ, pos, negsuc, natAbs, _+ℤ_, _-ℤ_}
+use lib.Dec.{ltb}
+use lib.IntN.{ℤ, pos, negsuc, natAbs, _+ℤ_}
 use lib.Signed.{ltZ}
-use borrow.Author.Tests.{ltb-true, ltb-false, lt-ltb, le-ltb}
+use borrow.Author.Tests.{lt-ltb, le-ltb}
 use Rattle.definitions.specs.Limits.{modulus, greatestPositive, priceLimit}
 use Rattle.definitions.specs.Arithmetic.{on, reading, residue}
-use Rattle.definitions.specs.Machine.{plus, minus, times, lessThan, sameAs}
+use Rattle.definitions.specs.Machine.{plus, minus, times, lessThan}
 use Rattle.laws.specs.Tests.{Lt?, less, more, lt?}
 
 pub plus-small : (a b : ℕ) → a + b < modulus → plus a b ≡ a + b

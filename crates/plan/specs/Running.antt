@@ -1,13 +1,13 @@
 -- Loops that add up in a cell (`gather`), lower it to a least or raise it to a greatest number, and that sum over all subsets (`subset-sums`).
 use mathlib.Core.Path.{_≡_, refl, sym, ap, _∙_}
-use mathlib.Core.Logic.{_≢_, _⊎_, inl, inr}
-use mathlib.Core.Bool.{Bool, true, false, not, cond}
-use mathlib.Core.List.{List, [], _∷_, _++_}
-use Prim.Native.Nat.{ℕ, zero, suc, _+_, _-_, _*_, _^_, _≤_, _<_, min, max}
+use mathlib.Core.Logic.{_⊎_, inl, inr}
+use mathlib.Core.Bool.{Bool, true, false}
+use mathlib.Core.List.{List, [], _∷_}
+use Prim.Native.Nat.{ℕ, zero, suc, _+_, _-_, _^_, _≤_, _<_, min, max}
 use native.Mathlib.Nat.{le-refl, eq-or-lt-of-le, le-of-suc-le-suc, not-suc-le-zero}
 use native.Mathlib.Omega.{arith}
 use lib.Dec.{eqb}
-use borrow.Author.Tests.{ne-eqb, eq-eqb}
+use borrow.Author.Tests.{ne-eqb}
 use Rattle.definitions.specs.Limits.{modulus, greatestPositive}
 use Rattle.definitions.specs.Arithmetic.{sumTo}
 use Rattle.laws.specs.Sum.{sum-prefix}
@@ -15,7 +15,7 @@ use Rattle.laws.specs.Extremes.{minTo, maxTo, min-le-start}
 use Rattle.laws.specs.Tests.{Eq?, same, diff, eq?}
 use Rattle.plan.specs.Orders.{OrderOn, constant, sum, difference, product, less, Name, State, run}
 use Rattle.plan.specs.Residues.{plus-small}
-use Rattle.plan.specs.Loops.{loop, run-append, loop-invariant, among, writes, writes-loop, keep, eqb-same, same-self}
+use Rattle.plan.specs.Loops.{loop, loop-invariant, among, writes, keep, eqb-same, same-self}
 use Rattle.plan.specs.Names.{subsets, Temporary, Subset}
 use Rattle.plan.specs.Subsets.{subsetSum, lowest, others, lowest-below, others-below, lowest-sum, subset-empty, subset-le}
 

@@ -1,22 +1,22 @@
 -- What the sealed sheet of a sound book holds, by names (`sealed-inputs`).
-use mathlib.Core.Path.{_≡_, refl, sym, ap, _∙_}
+use mathlib.Core.Path.{_≡_, sym, ap, _∙_}
 use mathlib.Core.Bool.{Bool, true, false, false≢true}
 use mathlib.Core.List.{List, [], _∷_, _++_, map, append-assoc}
 use Prim.Native.Nat.{ℕ, zero, suc, _+_, _-_, _*_, _≤_, _<_}
 use native.Mathlib.Omega.{arith}
 use native.Mathlib.Nat.{mul-le-mul-right}
-use lib.IntN.{ℤ, pos}
+use lib.IntN.{pos}
 use lib.ListN.{length, getD, replicate, length-append, length-map, length-replicate, getD-replicate, List·getD-append, List·getD-map, List·getD-eq-default}
 use lib.Seq.{getD-append-add}
 use lib.Arith.{digits-lt}
-use Rattle.definitions.specs.Limits.{bidLimit, poolLimit, bidNumbers, cellCount}
+use Rattle.definitions.specs.Limits.{poolLimit, bidNumbers, cellCount}
 use Rattle.definitions.specs.Arithmetic.{sumTo, residue}
-use Rattle.definitions.specs.Book.{Book, capacityEntry, capacity}
+use Rattle.definitions.specs.Book.{Book, capacity}
 use Rattle.definitions.specs.Sheet.{sealedSheet, firstResult}
 use Rattle.definitions.specs.Machine.{cell}
 use Rattle.laws.specs.Tests.{Lt?, less, more, lt?}
 use Rattle.laws.specs.AcceptedBook.{Sound}
-use Rattle.plan.specs.Orders.{Name, at, State}
+use Rattle.plan.specs.Orders.{at, State}
 use Rattle.plan.specs.Holds.{Holds, holds-add}
 use Rattle.plan.specs.Names.{bids, capacities, blanks}
 use Rattle.plan.specs.Values.{tables, bidCell}

@@ -1,11 +1,10 @@
 -- The whole work on names: from the inputs to the results (`work-done`).
-use mathlib.Core.Path.{_≡_, refl}
-use mathlib.Core.Bool.{true}
-use mathlib.Core.List.{List, [], _∷_, _++_}
-use Prim.Native.Nat.{ℕ, _<_}
+use mathlib.Core.Path.{refl}
+use mathlib.Core.List.{List, [], _∷_}
+use Prim.Native.Nat.{ℕ}
 use Rattle.definitions.specs.Book.{Book}
 use Rattle.laws.specs.AcceptedBook.{Sound}
-use Rattle.plan.specs.Orders.{OrderOn, Name, State, run}
+use Rattle.plan.specs.Orders.{State, run}
 use Rattle.plan.specs.Holds.{Holds, Step, then, phase-step, step-part}
 use Rattle.plan.specs.Names.{bids, capacities, amounts, flows, prices, blanks}
 use Rattle.plan.specs.Values.{tables}
@@ -16,7 +15,7 @@ use Rattle.plan.specs.Ranks.{ahead-phase, low-phase, reach-phase, high-p
 use Rattle.plan.specs.Lines.{placement-phase, slack-phase, flow-phase}
 use Rattle.plan.specs.Prices.{offer-phase, peak-phase, price-phase}
 use Rattle.plan.specs.Tree.{flat}
-use Rattle.plan.specs.Work.{bidTree, cutsTree, rankTrees, flowTree, priceTree, work}
+use Rattle.plan.specs.Work.{work}
 
 -- what a sealed sheet holds
 abbrev pub inputs : List ℕ

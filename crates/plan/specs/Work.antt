@@ -1,17 +1,12 @@
 -- The plan but for its last loop, which zeroes the scratch cells: its orders over names, as a tree made from n and m only.
-use mathlib.Core.Path.{_≡_, refl, sym, ap, _∙_}
-use mathlib.Core.Bool.{Bool, true, false}
-use mathlib.Core.List.{List, [], _∷_, _++_}
-use Prim.Native.Nat.{ℕ, zero, suc, _+_, _-_, _*_, _%_, _/_, _^_, _≤_, _<_}
-use native.Mathlib.Omega.{arith}
-use lib.Dec.{lit<, eqb}
-use lib.ListN.{length}
+use mathlib.Core.List.{List, [], _∷_}
+use Prim.Native.Nat.{ℕ, _+_, _*_, _%_, _/_, _^_}
 use Rattle.definitions.specs.Limits.{greatestPositive}
 use Rattle.plan.specs.Orders.{OrderOn, constant, sum, difference, Name}
 use Rattle.plan.specs.Names.{Capacity, Flow, Temporary, Blank, Demand, Subset, Cut, Ahead, Low, Reach, High, Placement, Peak}
 use Rattle.plan.specs.Running.{subsetBlock}
 use Rattle.plan.specs.Blocks.{unitBlock, shiftBlock, poolNumberBlock, sideBlock, sizeBlock, rateBlock, doubleBlock, keyBlock, nextBlock, placeBlock, weightBlock, demandTurn, cutTurn, testOrder, gain, aheadStart, costTurn, reachBlock, useBlock, amountBlock, placementTurn, slackBlock, restTurn, takeTurn, offerBlock, peakTurn, priceBlock}
-use Rattle.plan.specs.Tree.{Tree, orders, seq, rep, blocks, flat, size, Fair}
+use Rattle.plan.specs.Tree.{Tree, orders, seq, rep, blocks}
 
 abbrev pub Orders : Type 0
 Orders = Tree (OrderOn Name)
@@ -94,11 +89,11 @@ module _ (n m : ℕ) where
   abbrev pub lineSize : ℕ
   lineSize = (1 + 2 ^ m * 4) + (1 + 2 ^ m * 1)
 
+  abbrev pub slackTree : Orders
+  slackTree = seq (subsetTree Placement) (blocks (2 ^ m) 1 slackBlock)
+
   abbrev pub flowTree : Orders
-  flowTree =
-      seq (rep m (1 + n * 2) placementTree)
-      (seq (seq (subsetTree Placement) (blocks (2 ^ m) 1 slackBlock))
-      (rep (m * m) lineSize lineTree))
+  flowTree = seq (rep m (1 + n * 2) placementTree) (seq slackTree (rep (m * m) lineSize lineTree))
 
   -- ---- the prices
 

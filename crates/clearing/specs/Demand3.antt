@@ -1,0 +1,91 @@
+-- Demand 3, whole: one statement about every two accepted books of equal counts and the whole list of orders (`demand-3`).
+use Prim.Native.Nat.{ℕ, _+_, _≤_, _<_}
+use mathlib.Core.Path.{_≡_, refl, sym, ap, ap₂, _∙_, subst}
+use mathlib.Core.List.{List}
+use native.Mathlib.Omega.{arith}
+use lib.ListN.{length}
+use lib.IntN.{ℤ, pos}
+use Rattle.definitions.specs.declared.Order.{Order}
+use Rattle.definitions.specs.Limits.{cellCount}
+use Rattle.definitions.specs.Book.{Book}
+use Rattle.definitions.specs.Sheet.{sealedSheet}
+use Rattle.definitions.specs.Clearing.{Clearing, Best, welfare}
+use Rattle.definitions.specs.Machine.{runOf}
+use Rattle.definitions.specs.Answers.{Refusal, none, unless}
+use Rattle.definitions.specs.Bytes.{ordersBytes}
+use Rattle.definitions.specs.Calls.{AcceptedBook, sealRefusal, countsRefusal}
+use Rattle.definitions.specs.Plan.{asked, collected}
+use Rattle.definitions.specs.Outcome.{Outcome, resultOf, orderLimit, planRun, clearSheet, clearCount, clearWelfare}
+use Rattle.laws.specs.Refusal.{first-left}
+use Rattle.laws.specs.AcceptedBook.{accepted-sound}
+use Rattle.theory.specs.BestClearing.{best-unique}
+use Rattle.theory.specs.SameClearing.{welfare-same}
+use Rattle.plan.specs.Plan.{plan, plan-length, plan-bound}
+use Rattle.plan.specs.Collected.{collected-plan}
+use Rattle.outcome.specs.PlanClears.{plan-outcome}
+
+-- One list of orders clears book A.
+pub record ClearedBy (orders : List Order) (A : Book) : Type 0 where
+  -- it is the plan of A's counts, and what asking at 0 and at each position handed back gives until the plan has ended
+  pub is-plan : plan (A .n) (A .m) ≡ orders
+  pub is-asked : (k : ℕ) → length orders < k → collected (asked plan (A .n) (A .m)) k 0 ≡ orders
+  -- "Run by the machine of document 01, this plan turns A's sealed sheet into A's best clearing .. with flows and prices by document 01 in
+  -- their cells; input cells stay as sealed, and every scratch cell ends at 0."
+  pub outcome : Outcome A (runOf orders (sealedSheet A))
+  -- "Clearing either book, whatever the lent sheet held before, leaves exactly the sheet that this run gives for that book"
+  pub sheet : (lent : List ℕ) → length lent ≡ cellCount → clearSheet plan A lent ≡ runOf orders (sealedSheet A)
+  -- "This count is the number of orders in the plan"
+  pub count : clearCount plan A cellCount ≡ length orders
+  -- the welfare given is the best clearing's
+  pub best-welfare : (c : Clearing) → Best A c → clearWelfare plan A cellCount ≡ welfare A (c .accepted)
+
+-- "Take every two books A and B that sealing accepts, with equal bid counts and equal pool counts. .. the plan is the same list of orders for
+-- both, byte for byte. .. and reports the same count for both. .. for n bids and m pools it is at most n × (100 × n + 40 × (m+1)^6) + 10,000."
+pub record OnePlan (A B : Book) : Type 0 where
+  pub orders : List Order
+  pub first-book : ClearedBy orders A
+  pub second-book : ClearedBy orders B
+  pub same-bytes : ordersBytes (plan (A .n) (A .m)) ≡ ordersBytes (plan (B .n) (B .m))
+  pub same-count : clearCount plan A cellCount ≡ clearCount plan B cellCount
+  pub limit : length orders ≤ orderLimit (A .n) (A .m)
+
+module _ (A : Book) (accepted : AcceptedBook A) where
+  -- an accepted book is sealed in any sheet of 4,096 cells
+  not-refused : {X : Type 0} (given before : X) (cells : ℕ) → cells ≡ cellCount → unless (sealRefusal A cells) given before ≡ given
+  not-refused given before cells e = ap (λ (r : Refusal). unless r given before) (ap (sealRefusal A) e ∙ accepted)
+
+  counts : countsRefusal (A .n) (A .m) ≡ none
+  unfolding sealRefusal
+  counts = first-left (countsRefusal (A .n) (A .m)) _ accepted
+
+  pub cleared-by-plan : ClearedBy (plan (A .n) (A .m)) A
+  unfolding planRun clearSheet clearCount clearWelfare
+  cleared-by-plan = record {
+    is-plan = refl;
+    is-asked = λ k l. collected-plan plan (A .n) (A .m) counts k l;
+    outcome = plan-outcome A accepted;
+    sheet = λ lent e. not-refused (planRun plan A) lent (length lent) e;
+    count = not-refused (length (plan (A .n) (A .m))) 0 cellCount refl;
+    best-welfare = λ c b.
+        not-refused (welfare A (resultOf A (planRun plan A) .accepted)) (pos 0) cellCount refl
+        ∙ welfare-same A (resultOf A (planRun plan A) .accepted) (c .accepted)
+        (λ i l. best-unique A accepted (resultOf A (planRun plan A)) c (plan-outcome A accepted .best) b i l);
+  }
+
+-- the same for a book of the same counts, by the list of another
+of-equal-counts : (A B : Book) → AcceptedBook B → A .n ≡ B .n → A .m ≡ B .m → ClearedBy (plan (A .n) (A .m)) B
+of-equal-counts A B accepted n m = rw (n, m) (cleared-by-plan B accepted)
+
+pub demand-3 : (A B : Book) → AcceptedBook A → AcceptedBook B → A .n ≡ B .n → A .m ≡ B .m → OnePlan A B
+demand-3 A B a b n m =
+    let of-A = cleared-by-plan A a in
+    let of-B = of-equal-counts A B b n m in
+    let sound = accepted-sound A a in
+    record {
+      orders = plan (A .n) (A .m);
+      first-book = of-A;
+      second-book = of-B;
+      same-bytes = ap ordersBytes (sym (of-B .is-plan));
+      same-count = of-A .count ∙ sym (of-B .count);
+      limit = omega (arith, plan-length (A .n) (A .m) (sound .pools-positive), plan-bound (A .n) (A .m) (sound .pools-positive) (sound .pools));
+    }

@@ -1,0 +1,4 @@
+-- What clearing gives, and demand 3.
+pub mod Amounts
+pub mod SealedSheet
+pub mod Demand3

@@ -1,0 +1,3 @@
+-- What the proofs of the two calls share.
+pub mod Numbers
+pub mod Calls

@@ -1,0 +1,37 @@
+-- `write_unreadable` meets its contract: the text is one word, written where there is room.
+use native.Mathlib.Omega.{arith}
+use lib.ListN.{length}
+use lib.Dec.{leb}
+use borrow.Author.Needs.{needs}
+use borrow.Author.Tests.{le-leb, lt-leb}
+use Rattle.definitions.specs.Settle.{unreadableText}
+use Rattle.listing.specs.Text.{textRoom, unreadableSize, unreadableSlice}
+use Rattle.listing.specs.Written.{text-written, nothing-written}
+use Rattle.listing.proofs.write_unreadable.Statement.{statement}
+use Rattle.listing.proofs.write_unreadable.Tie as tie
+
+returns : tie.Need-returns
+unfolding unreadableSize unreadableSlice
+returns c =
+    let out = c .before .before .args .out .now in
+    nothing-written (leb textRoom (length out)) unreadableText out (lt-leb _ _ (c .if1 .taken))
+
+slice-aggregate-put-word : tie.Need-slice-aggregate-put-word
+slice-aggregate-put-word c = search needs
+
+put-word-requires : tie.Need-put-word-requires
+put-word-requires c κs = search needs
+
+same-length : tie.Need-same-length
+same-length c = search needs
+
+returns-2 : tie.Need-returns-2
+unfolding unreadableSize unreadableSlice unreadableText
+returns-2 c =
+    let l = c .before .before .before .before .before .if1 .left in
+    text-written (leb textRoom (length (c .before .before .before .before .before .before .before .args .out .now))) (le-leb _ _ l) (omega arith) (c .before .before .put-word .ensures)
+
+pub write-unreadable-spec : {M : Type 1} → statement M
+write-unreadable-spec =
+    tie.close
+    (tie.spec returns slice-aggregate-put-word put-word-requires same-length returns-2)

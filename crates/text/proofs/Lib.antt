@@ -1,0 +1,2 @@
+-- Laws that the proofs of the reader's functions cite.
+pub mod Negative

@@ -1,0 +1,78 @@
+-- One byte and one piece of the text: each case of a step, what is over stays, and that a text may be cut anywhere.
+use Prim.Native.Nat.{ℕ, _+_, _≤_, _<_}
+use mathlib.Core.Path.{_≡_, refl, ap, _∙_}
+use mathlib.Core.Bool.{Bool, true, false}
+use mathlib.Core.List.{List, [], _∷_, _++_}
+use native.Mathlib.Numerals.{add-one}
+use lib.Dec.{ltb}
+use lib.ListN.{length, getD, drop, drop-of-length-le, length-set}
+use lib.Seq.{drop-cons}
+use lib.IntN.{ℤ}
+use Rattle.definitions.specs.Settle.{blank}
+use Rattle.text.specs.declared.Ended.{Ended}
+use Rattle.text.specs.declared.Ended.the-variants.{Nothing, Fault, Number}
+use Rattle.text.specs.declared.Reader.{Reader}
+use Rattle.text.specs.Words.{endedOf}
+use Rattle.text.specs.Reading.{Reading, reading, numberLimit, over, placeFor, storedAt, wordEnded, wordGrown, stepped, fed}
+
+pub step-over : (s : Reading) (byte : ℕ) → over (s .reader .stage) ≡ true → stepped s byte ≡ s
+unfolding stepped
+step-over s byte o = rw o refl
+
+pub step-blank : (s : Reading) (byte : ℕ) → over (s .reader .stage) ≡ false → blank byte ≡ true → stepped s byte ≡ wordEnded s
+unfolding stepped
+step-blank s byte o b = rw (o, b) refl
+
+pub step-grown : (s : Reading) (byte : ℕ) → over (s .reader .stage) ≡ false → blank byte ≡ false → stepped s byte ≡ wordGrown s byte
+unfolding stepped
+step-grown s byte o b = rw (o, b) refl
+
+-- the loop's turn: r and xs are what the step at i left
+pub fed-on : (s : Reading) (bytes : List ℕ) (i : ℕ) (r : Reader) (xs : List ℤ) → i < length bytes → r ≡ stepped s (getD bytes i 0) .reader → xs ≡ stepped s (getD bytes i 0) .numbers → fed (reading r xs) (drop (i + 1) bytes) ≡ fed s (drop i bytes)
+unfolding fed
+fed-on s bytes i r xs h e q = rw (e, q, add-one i, drop-cons bytes i 0 h) refl
+
+-- the loop's end
+pub fed-all : (s : Reading) (bytes : List ℕ) (i : ℕ) → length bytes ≤ i → s ≡ fed s (drop i bytes)
+unfolding fed
+fed-all s bytes i h = rw (drop-of-length-le bytes h) refl
+
+-- "1 and 2 are tested once n and m are both read, before the rest is looked at": no later byte changes anything
+pub over-stays : (text : List ℕ) (s : Reading) → over (s .reader .stage) ≡ true → fed s text ≡ s
+unfolding fed
+over-stays [] s o = refl
+over-stays (byte ∷ text) s o = ap (λ (r : Reading). fed r text) (step-over s byte o) ∙ over-stays text s o
+
+-- a text in two pieces
+pub fed-append : (a b : List ℕ) (s : Reading) → fed (fed s a) b ≡ fed s (a ++ b)
+unfolding fed
+fed-append [] b s = refl
+fed-append (byte ∷ a) b s = fed-append a b (stepped s byte)
+
+-- ---- The numbers keep their places
+
+stored-length : (e : Ended) (at : ℕ) (numbers : List ℤ) → length (storedAt e at numbers) ≡ length numbers
+stored-length Nothing at numbers = refl
+stored-length Fault at numbers = refl
+stored-length (Number z) at numbers = go (ltb at numberLimit) refl
+  where
+    go : (t : Bool) → ltb at numberLimit ≡ t → length (storedAt (Number z) at numbers) ≡ length numbers
+    go true e = rw e (length-set numbers at z)
+    go false e = rw e refl
+
+pub ended-length : (s : Reading) → length (wordEnded s .numbers) ≡ length (s .numbers)
+unfolding wordEnded
+ended-length s = stored-length (endedOf (s .reader .word)) (placeFor (s .reader .stage)) (s .numbers)
+
+step-length : (s : Reading) (byte : ℕ) → length (stepped s byte .numbers) ≡ length (s .numbers)
+step-length s byte = go (over (s .reader .stage)) refl (blank byte) refl
+  where
+    go : (t : Bool) → over (s .reader .stage) ≡ t → (u : Bool) → blank byte ≡ u → length (stepped s byte .numbers) ≡ length (s .numbers)
+    go true o u b = rw (step-over s byte o) refl
+    go false o true b = rw (step-blank s byte o b) (ended-length s)
+    go false o false b = rw (step-grown s byte o b) refl
+
+pub fed-length : (text : List ℕ) (s : Reading) → length (fed s text .numbers) ≡ length (s .numbers)
+unfolding fed
+fed-length [] s = refl
+fed-length (byte ∷ text) s = fed-length text (stepped s byte) ∙ step-length s byte

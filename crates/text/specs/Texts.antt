@@ -1,0 +1,111 @@
+-- Last theorem: a text in any pieces, read from the start to its end, is what document 01 says of the whole text.
+use Prim.Native.Nat.{ℕ}
+use mathlib.Core.Path.{_≡_, refl, sym, ap, _∙_}
+use mathlib.Core.Bool.{Bool, true, false, true≢false}
+use mathlib.Core.List.{List, [], _∷_, _++_, append-nil}
+use lib.ListN.{length}
+use lib.IntN.{ℤ}
+use Rattle.definitions.specs.Settle.{blank, ended, words, wordsFrom, wholeOf, settleInput}
+use Rattle.definitions.specs.Settle as settle
+use Rattle.text.specs.declared.Word.{Word}
+use Rattle.text.specs.declared.Word.the-variants.{Empty}
+use Rattle.text.specs.declared.Ended.{Ended}
+use Rattle.text.specs.declared.Ended.the-variants.{Nothing, Fault, Number}
+use Rattle.text.specs.declared.Stage.{Stage}
+use Rattle.text.specs.declared.Stage.the-variants as stage
+use Rattle.text.specs.Words.{endedOf}
+use Rattle.text.specs.Reading.{Reading, reading, startReader, numberLimit, over, takenBy, wordEnded, fed, answerOf, inputFor}
+use Rattle.text.specs.Steps.{step-blank, step-grown, over-stays, fed-append}
+use Rattle.text.specs.Values.{wordFrom, word-more, word-ends}
+use Rattle.text.specs.Stages.{Held, Onward, continued, word-taken, text-ended}
+
+-- a reader in the middle of a word
+abbrev pub inWord : Word → Stage → List ℤ → Reading
+inWord word s stored = reading (record { word = word; stage = s }) stored
+
+-- what the text is if it ends here
+unfoldable pub finished : Reading → settle.Input
+finished s = inputFor (answerOf (wordEnded s .reader .stage)) (wordEnded s .numbers)
+
+-- ---- The answer is known
+
+over-taken : (s : Stage) (e : Ended) → over s ≡ true → takenBy s e ≡ s
+over-taken stage.First e o = absurd (true≢false (sym o))
+over-taken (stage.Second n) e o = absurd (true≢false (sym o))
+over-taken (stage.Tables n m read) e o = absurd (true≢false (sym o))
+over-taken stage.Unreadable Nothing o = refl
+over-taken stage.Unreadable Fault o = refl
+over-taken stage.Unreadable (Number z) o = refl
+over-taken (stage.Refused verdict) Nothing o = refl
+over-taken (stage.Refused verdict) Fault o = refl
+over-taken (stage.Refused verdict) (Number z) o = refl
+
+over-answered : (s : Stage) (numbers stored : List ℤ) (left : List (List ℕ)) → over s ≡ true → inputFor (answerOf s) numbers ≡ continued s stored left
+over-answered stage.First numbers stored left o = absurd (true≢false (sym o))
+over-answered (stage.Second n) numbers stored left o = absurd (true≢false (sym o))
+over-answered (stage.Tables n m read) numbers stored left o = absurd (true≢false (sym o))
+over-answered stage.Unreadable numbers stored left o = refl
+over-answered (stage.Refused verdict) numbers stored left o = refl
+
+over-finished : (word : Word) (s : Stage) (stored : List ℤ) (left : List (List ℕ)) → over s ≡ true → finished (inWord word s stored) ≡ continued s stored left
+unfolding finished wordEnded
+over-finished word s stored left o = rw (over-taken s (endedOf word) o) (over-answered s _ stored left o)
+
+-- ---- A word has ended
+
+word-onward : (word : List ℕ) (s : Stage) (stored : List ℤ) (left : List (List ℕ)) → Held s → length stored ≡ numberLimit → let r = wordEnded (inWord (wordFrom Empty word) s stored) in Onward (r .reader .stage) (r .numbers) left (continued s stored (ended word ++ left))
+unfolding wordEnded wordFrom
+word-onward [] s stored left h l = record { same = refl; held = h; long = l }
+word-onward (byte ∷ word) s stored left h l = rw (word-ends byte word) (word-taken s stored (byte ∷ word) (wholeOf (byte ∷ word)) left h l refl)
+
+finished-here : (word : List ℕ) (s : Stage) (stored : List ℤ) → Held s → length stored ≡ numberLimit → finished (inWord (wordFrom Empty word) s stored) ≡ continued s stored (ended word)
+unfolding finished
+finished-here word s stored h l =
+    let w = word-onward word s stored [] h l in
+    let r = wordEnded (inWord (wordFrom Empty word) s stored) in
+    sym (ap (continued s stored) (sym (append-nil (ended word))) ∙ w .same ∙ text-ended (r .reader .stage) (r .numbers) (w .held) (w .long))
+
+-- ---- The rest of the text
+
+reads-from : (text word : List ℕ) (s : Stage) (stored : List ℤ) → Held s → length stored ≡ numberLimit → finished (fed (inWord (wordFrom Empty word) s stored) text) ≡ continued s stored (wordsFrom word text)
+unfolding fed wordsFrom wordEnded wordFrom
+reads-from [] word s stored h l = finished-here word s stored h l
+reads-from (byte ∷ text) word s stored h l = go (over s) refl (blank byte) refl (reads-from text)
+  where
+    go : (t : Bool) → over s ≡ t → (u : Bool) → blank byte ≡ u → ((word′ : List ℕ) (s′ : Stage) (stored′ : List ℤ) → Held s′ → length stored′ ≡ numberLimit → finished (fed (inWord (wordFrom Empty word′) s′ stored′) text) ≡ continued s′ stored′ (wordsFrom word′ text)) → finished (fed (inWord (wordFrom Empty word) s stored) (byte ∷ text)) ≡ continued s stored (wordsFrom word (byte ∷ text))
+    go true o u b onward =
+        ap finished (over-stays (byte ∷ text) (inWord (wordFrom Empty word) s stored) o) ∙ over-finished (wordFrom Empty word) s stored _ o
+    go false o true b onward =
+        let w = word-onward word s stored (wordsFrom [] text) h l in
+        let r = wordEnded (inWord (wordFrom Empty word) s stored) in
+        rw (step-blank (inWord (wordFrom Empty word) s stored) byte o b, b)
+        (onward [] (r .reader .stage) (r .numbers) (w .held) (w .long) ∙ sym (w .same))
+    go false o false b onward =
+        rw (step-grown (inWord (wordFrom Empty word) s stored) byte o b, b, word-more word byte Empty)
+        (onward (word ++ (byte ∷ [])) s stored h l)
+
+-- a text in one piece
+pub reads : (stored : List ℤ) (text : List ℕ) → length stored ≡ numberLimit → finished (fed (reading startReader stored) text) ≡ settleInput text
+unfolding settleInput words wordFrom
+reads stored text l = reads-from text [] stage.First stored tt l
+
+-- ---- Pieces
+
+-- one piece after another
+unfoldable pub fedPieces : Reading → List (List ℕ) → Reading
+fedPieces s [] = s
+fedPieces s (piece ∷ pieces) = fedPieces (fed s piece) pieces
+
+-- the whole text
+unfoldable pub joined : List (List ℕ) → List ℕ
+joined [] = []
+joined (piece ∷ pieces) = piece ++ joined pieces
+
+pub pieces-joined : (pieces : List (List ℕ)) (s : Reading) → fedPieces s pieces ≡ fed s (joined pieces)
+unfolding fedPieces joined fed
+pieces-joined [] s = refl
+pieces-joined (piece ∷ pieces) s = pieces-joined pieces (fed s piece) ∙ fed-append piece (joined pieces) s
+
+-- however the text is cut
+pub reads-pieces : (stored : List ℤ) (pieces : List (List ℕ)) → length stored ≡ numberLimit → finished (fedPieces (reading startReader stored) pieces) ≡ settleInput (joined pieces)
+reads-pieces stored pieces l = ap finished (pieces-joined pieces (reading startReader stored)) ∙ reads stored (joined pieces) l

@@ -1,0 +1,45 @@
+-- The word being read, byte by byte, and what it is once it has ended.
+use Prim.Native.Nat.{ℕ, _+_, _-_, _*_}
+use mathlib.Core.Bool.{Bool, true, false, cond, _&&_}
+use lib.Dec.{ltb, leb, eqb}
+use lib.IntN.{pos, negℤ}
+use Rattle.text.specs.declared.Word.{Word}
+use Rattle.text.specs.declared.Word.the-variants.{Empty, Minus, Digits, Spoiled}
+use Rattle.text.specs.declared.Ended.{Ended}
+use Rattle.text.specs.declared.Ended.the-variants.{Nothing, Fault, Number}
+
+-- sizes of the greatest and of the least number of signed 32 bits, and the value that stands for every size beyond both
+abbrev pub greatest : ℕ
+greatest = 2147483647
+
+abbrev pub least : ℕ
+least = 2147483648
+
+abbrev pub beyond : ℕ
+beyond = 2147483649
+
+abbrev pub capped : ℕ → ℕ
+capped value = cond (ltb value beyond) value beyond
+
+-- digits of that value, then one byte more
+abbrev pub digitAfter : (negative : Bool) (value byte : ℕ) → Word
+digitAfter negative value byte =
+    cond (leb 48 byte && leb byte 57) (Digits negative (capped (10 * value + (byte - 48)))) Spoiled
+
+-- a word with one byte more
+abbrev pub grownBy : Word → ℕ → Word
+grownBy Empty byte = cond (eqb byte 45) Minus (digitAfter false 0 byte)
+grownBy Minus byte = digitAfter true 0 byte
+grownBy (Digits negative value) byte = digitAfter negative value byte
+grownBy Spoiled byte = Spoiled
+
+-- a number by its sign and size, if it is within signed 32 bits
+abbrev pub signedOf : (negative : Bool) (value : ℕ) → Ended
+signedOf true value = cond (leb value least) (Number (negℤ (pos value))) Fault
+signedOf false value = cond (leb value greatest) (Number (pos value)) Fault
+
+abbrev pub endedOf : Word → Ended
+endedOf Empty = Nothing
+endedOf Minus = Fault
+endedOf (Digits negative value) = signedOf negative value
+endedOf Spoiled = Fault

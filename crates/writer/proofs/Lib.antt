@@ -1,0 +1,2 @@
+-- What the writer's loop keeps.
+pub mod Filling

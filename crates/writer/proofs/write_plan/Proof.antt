@@ -1,0 +1,58 @@
+-- The call is judged first; if it passes, the orders that fit are written.
+use mathlib.Core.Path.{_≡_, sym, _∙_}
+use lib.ListN.{length}
+use borrow.Author.Needs.{needs}
+use Rattle.definitions.specs.Answers.{none}
+use Rattle.definitions.specs.Plan.{writeRefusal}
+use Rattle.laws.specs.Search.{turned-away, let-through}
+use Rattle.plan.specs.Plan.{plan}
+use Rattle.writer.specs.Calls.{write-within, counts-accepted, slice-accepted, counts-refused, slice-refused}
+use Rattle.writer.proofs.write_plan.Statement.{statement}
+use Rattle.writer.proofs.write_plan.Tie as tie
+
+judge-writing-requires : tie.Need-judge-writing-requires
+judge-writing-requires c κs = search needs
+
+is-accepted-requires : tie.Need-is-accepted-requires
+is-accepted-requires c κs = search needs
+
+returns : tie.Need-returns
+returns c =
+    let a = c .before .before .before .before .args in
+    let judged = c .before .before .judge-writing .ensures in
+    let refused = turned-away judged (c .before .is-accepted .ensures) (c .if1 .taken) in
+    (judged, (sym (counts-refused plan (a .n) (a .m) (a .at) (length (a .out .now)) refused), sym (slice-refused plan (a .n) (a .m) (a .at) (a .out .now) refused)))
+
+passed : (c : tie.Else1) → let a = c .before .before .before .before .args in writeRefusal plan (a .n) (a .m) (a .at) (length (a .out .now)) ≡ none
+passed c = let-through (c .before .before .judge-writing .ensures) (c .before .is-accepted .ensures) (c .if1 .left)
+
+write-orders-requires : tie.Need-write-orders-requires
+write-orders-requires c κs =
+    let within = write-within plan _ _ _ _ (passed (c .before)) in
+    (within .counts, within .position)
+
+same-length : tie.Need-same-length
+same-length c = search needs
+
+returns-2 : tie.Need-returns-2
+returns-2 c =
+    let a = c .before .before .before .before .before .before .before .before .args in
+    let accepted = passed (c .before .before .before .before) in
+    let written = c .before .before .write-orders .ensures in (
+      written .0 ∙ sym accepted,
+      (
+        written .1 .0 ∙ sym (counts-accepted plan (a .n) (a .m) (a .at) (length (a .out .now)) accepted),
+        written .1 .1 ∙ sym (slice-accepted plan (a .n) (a .m) (a .at) (a .out .now) accepted),
+      ),
+    )
+
+pub write-plan-spec : {M : Type 1} → statement M
+write-plan-spec =
+    tie.close
+    (tie.spec
+    judge-writing-requires
+    is-accepted-requires
+    returns
+    write-orders-requires
+    same-length
+    returns-2)

@@ -1,0 +1,59 @@
+-- What is known of a call of the writer that is not refused (`write-within`), and what each call leaves.
+use Prim.Native.Nat.{ℕ, _≤_}
+use mathlib.Core.Path.{_≡_, refl, sym, ap}
+use mathlib.Core.Bool.{Bool, true, false, cond, true≢false}
+use mathlib.Core.List.{List}
+use lib.Dec.{ltb}
+use lib.ListN.{length}
+use borrow.Author.Tests.{ltb-false}
+use Rattle.definitions.specs.Answers.{Refusal, none, refuse, unless, isNone}
+use Rattle.definitions.specs.Calls.{countsRefusal}
+use Rattle.definitions.specs.Plan.{Plan, positionRefusal, roomRefusal, askRefusal, writeRefusal, over, bytesWritten, nothingWritten, writtenCounts, writeCounts, writeSlice}
+use Rattle.laws.specs.Refusal.{first-left, first-right, unless-refused}
+
+not-past : (orders at : ℕ) → cond (ltb orders at) (refuse 13 0) none ≡ none → at ≤ orders
+not-past orders at = go (ltb orders at) refl
+  where
+    go : (t : Bool) → ltb orders at ≡ t → cond t (refuse 13 0) none ≡ none → at ≤ orders
+    go true p e = absurd (true≢false (sym (ap isNone e)))
+    go false p e = ltb-false orders at p
+
+roomy : (room : ℕ) → roomRefusal room ≡ none → 8 ≤ room
+roomy room = go (ltb room 8) refl
+  where
+    go : (t : Bool) → ltb room 8 ≡ t → cond t (refuse 14 0) none ≡ none → 8 ≤ room
+    go true p e = absurd (true≢false (sym (ap isNone e)))
+    go false p e = ltb-false room 8 p
+
+pub record Within (P : Plan) (n m at bytes : ℕ) : Type 0 where
+  pub counts : countsRefusal n m ≡ none
+  pub position : at ≤ length (P n m)
+  pub room : 8 ≤ bytes
+
+module _ (P : Plan) (n m at room : ℕ) where
+  pub write-within : writeRefusal P n m at room ≡ none → Within P n m at room
+  unfolding writeRefusal askRefusal
+  write-within e =
+      let asked = first-left (askRefusal P n m at) (roomRefusal room) e in
+      record {
+        counts = first-left (countsRefusal n m) (positionRefusal (P n m) at) asked;
+        position = not-past (length (P n m)) at (first-right (countsRefusal n m) (positionRefusal (P n m) at) asked);
+        room = roomy room (first-right (askRefusal P n m at) (roomRefusal room) e);
+      }
+
+  pub counts-accepted : writeRefusal P n m at room ≡ none → writeCounts P n m at room ≡ writtenCounts P n m at room
+  unfolding writeCounts
+  counts-accepted e = ap (λ (r : Refusal). unless r (writtenCounts P n m at room) nothingWritten) e
+
+  pub counts-refused : isNone (writeRefusal P n m at room) ≡ false → writeCounts P n m at room ≡ nothingWritten
+  unfolding writeCounts
+  counts-refused e = unless-refused (writeRefusal P n m at room) (writtenCounts P n m at room) nothingWritten e
+
+module _ (P : Plan) (n m at : ℕ) (out : List ℕ) where
+  pub slice-accepted : writeRefusal P n m at (length out) ≡ none → writeSlice P n m at out ≡ over (bytesWritten P n m at (length out)) out
+  unfolding writeSlice
+  slice-accepted e = ap (λ (r : Refusal). unless r (over (bytesWritten P n m at (length out)) out) out) e
+
+  pub slice-refused : isNone (writeRefusal P n m at (length out)) ≡ false → writeSlice P n m at out ≡ out
+  unfolding writeSlice
+  slice-refused e = unless-refused (writeRefusal P n m at (length out)) (over (bytesWritten P n m at (length out)) out) out e

@@ -1,0 +1,92 @@
+// The plan writer: a plan's orders from a position on, as bytes in a lent slice.
+ghost use mathlib.Core.Path.{_≡_};
+ghost use Prim.Native.Nat.{_≤_};
+ghost use lib.ListN.{length};
+ghost use Rattle.definitions.specs.Answers.{none, refusalOf};
+ghost use Rattle.definitions.specs.Calls.{countsRefusal};
+ghost use Rattle.definitions.specs.Plan.{writeRefusal, bytesWritten, writtenCounts, writeCounts, writeSlice, over};
+ghost use Rattle.plan.specs.Plan.{plan};
+ghost use Rattle.writer.specs.Counts.{countsOf};
+use codec::write_order;
+use definitions::Verdict;
+use definitions::is_accepted;
+use plan::Asked;
+use plan::Position;
+
+// The longest order, in bytes.
+const LONGEST_ORDER: usize = 8;
+
+// What was written: bytes, orders, and the position after them.
+pub struct Written {
+    pub verdict: Verdict,
+    pub bytes: usize,
+    pub orders: usize,
+    pub next: usize,
+}
+
+// Counts, position, and the room for one order at least: 14.
+pub fn judge_writing(n: usize, m: usize, at: usize, room: usize) -> Verdict
+    ensures { λ r. ⌜ refusalOf r ≡ writeRefusal plan n m at room ⌝ }
+{
+    let by_position = Position { n, m, at }.judge();
+    if !is_accepted(by_position) {
+        return by_position;
+    }
+    if room < LONGEST_ORDER {
+        return Verdict::Room;
+    }
+    Verdict::Accepted
+}
+
+// As many whole orders as fit.
+fn write_orders(from: Position, out: &mut [u8]) -> Written
+    requires { ⌜ countsRefusal (from .n) (from .m) ≡ none ⌝ }
+    requires { ⌜ from .at ≤ length (plan (from .n) (from .m)) ⌝ }
+    ensures verdict { λ r. ⌜ refusalOf (r .verdict) ≡ none ⌝ }
+    ensures counts { λ r. ⌜ countsOf r ≡ writtenCounts plan (from .n) (from .m) (from .at) (length (now (out .entry))) ⌝ }
+    ensures slice { λ _. ⌜ now (out .exit) ≡ over (bytesWritten plan (from .n) (from .m) (from .at) (length (now (out .entry)))) (now (out .entry)) ⌝ }
+{
+    let mut position = from;
+    let mut bytes = 0;
+    let mut orders = 0;
+    loop {
+        let Asked::Order(order, later) = position.ask() else {
+            return Written {
+                verdict: Verdict::Accepted,
+                bytes,
+                orders,
+                next: position.at,
+            };
+        };
+        let size = write_order(out, bytes, order);
+        if size == 0 {
+            return Written {
+                verdict: Verdict::Accepted,
+                bytes,
+                orders,
+                next: position.at,
+            };
+        }
+        bytes += size;
+        orders += 1;
+        position = later;
+    }
+}
+
+// From a position, fills the slice with as many whole orders as fit and keeps the bytes after them.
+pub fn write_plan(n: usize, m: usize, at: usize, out: &mut [u8]) -> Written
+    ensures verdict { λ r. ⌜ refusalOf (r .verdict) ≡ writeRefusal plan n m at (length (now (out .entry))) ⌝ }
+    ensures counts { λ r. ⌜ countsOf r ≡ writeCounts plan n m at (length (now (out .entry))) ⌝ }
+    ensures slice { λ _. ⌜ now (out .exit) ≡ writeSlice plan n m at (now (out .entry)) ⌝ }
+{
+    let verdict = judge_writing(n, m, at, out.len());
+    if !is_accepted(verdict) {
+        return Written {
+            verdict,
+            bytes: 0,
+            orders: 0,
+            next: 0,
+        };
+    }
+    write_orders(Position { n, m, at }, out)
+}
