@@ -9,8 +9,10 @@ use lib.Signed.{ltZ}
 use Rattle.definitions.specs.Limits.{cellCount, bidNumbers}
 use Rattle.definitions.specs.Arithmetic.{within}
 use Rattle.definitions.specs.Book.{Book, book}
-use Rattle.definitions.specs.Answers.{Refusal, none, refuse}
-use Rattle.definitions.specs.Calls.{countsRefusal, sealRefusal}
+use Rattle.definitions.specs.Answers.{Refusal, none, refuse, numberOf, placeOf}
+use Rattle.definitions.specs.Calls.{countsRefusal, sealRefusal, openedResults}
+use Rattle.definitions.specs.Plan.{Plan}
+use Rattle.definitions.specs.Outcome.{planRun, clearWelfare}
 
 -- ---- The text read
 
@@ -201,3 +203,18 @@ priceLines n m results =
 
 unfoldable pub listing : (n m : ℕ) (results : List ℤ) (w : ℤ) → List ℕ
 listing n m results w = bidLines n results ++ (flowLines n m results ++ (priceLines n m results ++ welfareLine w))
+
+-- ---- What settle prints for a text
+
+abbrev pub bookText : Plan → Book → Refusal → List ℕ
+bookText plan B none =
+    listing (B .n) (B .m) (openedResults (B .n) (B .m) (planRun plan B)) (clearWelfare plan B cellCount)
+bookText plan B (refuse number place) = refusedText number place
+
+unfoldable pub inputText : Plan → Input → List ℕ
+inputText plan unreadable = unreadableText
+inputText plan (refused r) = refusedText (numberOf r) (placeOf r)
+inputText plan (readable B) = bookText plan B (sealRefusal B cellCount)
+
+unfoldable pub settleText : Plan → List ℕ → List ℕ
+settleText plan text = inputText plan (settleInput text)
