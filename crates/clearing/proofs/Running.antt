@@ -11,7 +11,7 @@ use Rattle.definitions.specs.declared.Order.the-variants.{Constant}
 use Rattle.definitions.specs.Machine.{IsSheet, WellFormed, stepOf, runOf}
 use Rattle.definitions.specs.Plan.{Plan}
 use Rattle.machine.specs.Run.{step-sheet, run-append}
-use Rattle.plan.specs.declared.Position.{Position}
+use Rattle.position.specs.declared.Position.{Position}
 use Rattle.plan.specs.Asking.{Handed}
 
 pub record Running (P : Plan) (n m : ℕ) (start s : List ℕ) (position : Position) : Type 0 where

@@ -18,8 +18,8 @@ use definitions::Limits;
 use definitions::Verdict;
 use definitions::is_accepted;
 use machine::step;
-use plan::Asked;
-use plan::Position;
+use position::Asked;
+use position::Position;
 use sealing::seal;
 use welfare::welfare;
 

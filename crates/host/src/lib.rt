@@ -13,7 +13,7 @@ use definitions::Verdict;
 use definitions::is_accepted;
 use definitions::number;
 use judging::judge_counts;
-use plan::Plan;
+use position::Plan;
 use writer::judge_writing;
 use writer::write_plan;
 

@@ -1,4 +1,4 @@
--- The plan of n bids and m pools, and what it leaves on a sealed sheet.
+-- The plan of n bids and m pools, what it leaves on a sealed sheet, and what is got by asking for it at its positions.
 pub mod Orders
 pub mod Residues
 pub mod Loops
@@ -24,9 +24,6 @@ pub mod Proper
 pub mod Plan
 pub mod Sealed
 pub mod Cleared
-pub mod Digits
-pub mod Walk
 pub mod List
-pub mod Answer
 pub mod Asking
 pub mod Collected

@@ -22,6 +22,11 @@ use Rattle.plan.specs.Tree.{flat, size, entry, flat-length, flat-entry, 
 use Rattle.plan.specs.Work.{work}
 use Rattle.plan.specs.Proper.{Valid, Proper, work-proper, work-fair}
 
+entry-any : (l : List Order) (x : ℕ) (d e : Order) → x < length l → getD l x d ≡ getD l x e
+entry-any [] x d e h = absurd (omega arith)
+entry-any (o ∷ l) zero d e h = refl
+entry-any (o ∷ l) (suc x) d e h = entry-any l x d e (omega arith)
+
 module _ (n m : ℕ) where
   -- where family t begins
   unfoldable pub from : ℕ → ℕ
@@ -90,9 +95,9 @@ module _ (n m : ℕ) where
   unfoldable pub orderAt : ℕ → Order
   orderAt x = orderOf (cond (ltb x workLength) (renamed cellOf (workAt x)) (constant (firstScratch n m + (x - workLength)) 0))
 
-  pub plan-entry : 0 < m → (x : ℕ) → x < planLength → getD plan x (orderOf (renamed cellOf (constant Blank 0))) ≡ orderAt x
+  plan-entry-blank : 0 < m → (x : ℕ) → x < planLength → getD plan x (orderOf (renamed cellOf (constant Blank 0))) ≡ orderAt x
   unfolding plan orderAt workAt workLength
-  plan-entry h x l =
+  plan-entry-blank h x l =
       List·getD-map orderOf numbered x (renamed cellOf (constant Blank 0)) ∙ ap orderOf (go (lt? x (size (work n m))))
     where
       worked : List (OrderOn ℕ)
@@ -112,6 +117,10 @@ module _ (n m : ℕ) where
           ap (λ (y : ℕ). getD numbered y (renamed cellOf (constant Blank 0))) w
           ∙ getD-append-add worked (loop scratchCount zeroBlock) (x - size (work n m)) (renamed cellOf (constant Blank 0))
           ∙ single-entry scratchCount (λ k. constant (firstScratch n m + k) 0) (x - size (work n m)) (renamed cellOf (constant Blank 0)) (omega (arith, work-size))
+
+  -- whatever stands for an order past the end
+  pub plan-entry : 0 < m → (x : ℕ) → x < planLength → (d : Order) → getD plan x d ≡ orderAt x
+  plan-entry h x l d = entry-any plan x d _ (omega (arith, plan-length h)) ∙ plan-entry-blank h x l
 
   -- ---- every order is one of the machine's, and writes a result or scratch
 

@@ -17,7 +17,7 @@ use Rattle.laws.specs.Tests.{Lt?, less, more, lt?}
 use Rattle.codec.specs.Written.{writtenSize}
 use Rattle.codec.specs.Writes.{size-without-room}
 use Rattle.codec.specs.OrderBytes.{at-least-three}
-use Rattle.plan.specs.declared.Position.{Position}
+use Rattle.position.specs.declared.Position.{Position}
 use Rattle.plan.specs.Asking.{Handed}
 use Rattle.writer.specs.Fitting.{bytes-of-none, bytes-of-more, fits-none, fits-one, fits-no-more}
 

@@ -10,8 +10,8 @@ ghost use Rattle.writer.specs.Counts.{countsOf};
 use codec::write_order;
 use definitions::Verdict;
 use definitions::is_accepted;
-use plan::Asked;
-use plan::Position;
+use position::Asked;
+use position::Position;
 
 // The longest order, in bytes.
 const LONGEST_ORDER: usize = 8;

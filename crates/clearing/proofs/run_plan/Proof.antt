@@ -13,14 +13,14 @@ use Rattle.definitions.specs.Machine.{WellFormed}
 use Rattle.definitions.specs.Answers.{none}
 use Rattle.definitions.specs.Calls.{countsRefusal}
 use Rattle.definitions.specs.Plan.{asked}
-use Rattle.plan.specs.declared.Position.{Position}
-use Rattle.plan.specs.declared.Asked.{Asked}
-use Rattle.plan.specs.declared.Asked.the-variants as case
-use Rattle.plan.proofs.Asked.{the-type}
+use Rattle.position.specs.declared.Position.{Position}
+use Rattle.position.specs.declared.Asked.{Asked}
+use Rattle.position.specs.declared.Asked.the-variants as case
+use Rattle.position.proofs.Asked.{the-type}
 use Rattle.plan.specs.Plan.{plan}
 use Rattle.plan.specs.List.{plan-well-formed}
 use Rattle.laws.specs.Sizes.{counted}
-use Rattle.plan.specs.Answer.{answerOf, SamePlan}
+use Rattle.position.specs.Answer.{answerOf, SamePlan}
 use Rattle.plan.specs.Asking.{Handed, order-handed, end-reached, never-refused}
 use Rattle.clearing.proofs.Running.{Running, begins, goes-on, ends}
 use Rattle.clearing.proofs.run_plan.Statement.{statement}

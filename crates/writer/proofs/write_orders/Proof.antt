@@ -16,12 +16,12 @@ use Rattle.definitions.specs.Calls.{countsRefusal}
 use Rattle.definitions.specs.Plan.{asked}
 use Rattle.codec.specs.OrderBytes.{at-least-three}
 use Rattle.codec.specs.Writes.{size-with-room, bytes-with-room, bytes-without-room, none-written}
-use Rattle.plan.specs.declared.Position.{Position}
-use Rattle.plan.specs.declared.Asked.{Asked}
-use Rattle.plan.specs.declared.Asked.the-variants as case
-use Rattle.plan.proofs.Asked.{the-type}
+use Rattle.position.specs.declared.Position.{Position}
+use Rattle.position.specs.declared.Asked.{Asked}
+use Rattle.position.specs.declared.Asked.the-variants as case
+use Rattle.position.proofs.Asked.{the-type}
 use Rattle.plan.specs.Plan.{plan}
-use Rattle.plan.specs.Answer.{answerOf, SamePlan}
+use Rattle.position.specs.Answer.{answerOf, SamePlan}
 use Rattle.plan.specs.Asking.{Handed, order-handed, end-reached, never-refused}
 use Rattle.writer.proofs.Filling.{Filled, begins, goes-on, at-end, no-room, ends, had-room}
 use Rattle.writer.proofs.write_orders.Statement.{statement}
