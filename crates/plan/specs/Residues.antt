@@ -11,6 +11,7 @@ use Rattle.definitions.specs.Limits.{modulus, greatestPositive, priceLimit}
 use Rattle.definitions.specs.Arithmetic.{on, reading, residue}
 use Rattle.definitions.specs.Machine.{plus, minus, times, lessThan}
 use Rattle.laws.specs.Tests.{Lt?, less, more, lt?}
+use Rattle.residues.specs.Residues.{reading-residue}
 
 pub plus-small : (a b : ℕ) → a + b < modulus → plus a b ≡ a + b
 plus-small a b h = omega arith
@@ -26,9 +27,6 @@ times-on false v h = omega arith
 pub on-times : (t : Bool) (v : ℕ) → v < modulus → times v (on t 1) ≡ on t v
 on-times true v h = omega arith
 on-times false v h = omega arith
-
-pub reading-small : (a : ℕ) → a ≤ greatestPositive → reading a ≡ pos a
-reading-small a h = rw (le-ltb greatestPositive a h)
 
 pub less-small : (a b : ℕ) → a ≤ greatestPositive → b ≤ greatestPositive → lessThan a b ≡ on (ltb a b) 1
 less-small a b h k = rw (le-ltb greatestPositive a h, le-ltb greatestPositive b k)
@@ -49,10 +47,6 @@ max-small a b h k = rw (less-small a b h k) (go (lt? a b))
     go (more l) = omega arith
 
 -- ---- numbers with sign
-
-pub reading-residue : (z : ℤ) → natAbs z ≤ greatestPositive → reading (residue z) ≡ z
-reading-residue (pos a) h = reading-small a h
-reading-residue (negsuc a) h = rw (lt-ltb greatestPositive (modulus - suc a) (omega arith), lt-ltb (modulus - suc a) modulus (omega arith)) (ap negsuc (omega arith))
 
 -- the test whether a number is above 0
 pub positive-residue : (z : ℤ) → natAbs z ≤ greatestPositive → lessThan 0 (residue z) ≡ on (ltZ (pos 0) z) 1
