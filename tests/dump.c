@@ -1,0 +1,28 @@
+/* Writes the bytes of the plan for n bids and m pools to standard output. Usage: dump N M */
+#include <stdio.h>
+#include <stdlib.h>
+
+#include "dacwiiqon.h"
+
+static uint64_t number(const uint8_t *bytes) {
+    uint64_t v = 0;
+    for (int k = 7; k >= 0; k--) v = v * 256 + bytes[k];
+    return v;
+}
+
+int main(int count, char **words) {
+    uint8_t bytes[4096], out[24];
+    uint64_t position = 0;
+    if (count != 3) return 2;
+    uint64_t n = strtoull(words[1], NULL, 10), m = strtoull(words[2], NULL, 10);
+    for (;;) {
+        uint32_t refusal = plan_bytes(n, m, position, bytes, sizeof bytes, out, sizeof out);
+        if (refusal != 0) {
+            fprintf(stderr, "refused %u\n", refusal);
+            return 1;
+        }
+        if (number(out + 8) == 0) return 0;
+        fwrite(bytes, 1, number(out), stdout);
+        position = number(out + 16);
+    }
+}
