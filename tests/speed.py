@@ -1,0 +1,35 @@
+"""Times one clearing of a book of 64 bids and 4 pools: python3 tests/speed.py SETTLE DUMP SPEED
+
+SETTLE is the program (its time is that of 200 runs less that of 200 runs of an empty book), DUMP and SPEED the programs of tests/dump.c and
+tests/speed.c: a plain C loop that runs the same plan already decoded, and a plain C greedy by augmenting paths."""
+import random
+import subprocess
+import sys
+import tempfile
+import time
+
+import books
+
+
+def seconds(program, data, runs):
+    start = time.perf_counter()
+    for _ in range(runs):
+        subprocess.run([program], input=data, stdout=subprocess.DEVNULL, check=True)
+    return time.perf_counter() - start
+
+
+def main():
+    settle, dump, speed = sys.argv[1:4]
+    book = books.text(*books.sound(random.Random(7), 64, 4)).encode()
+    with tempfile.NamedTemporaryFile() as plan:
+        subprocess.run([dump, "64", "4"], stdout=plan, check=True)
+        orders, decoded, paths, _, _ = subprocess.run([speed, plan.name], input=book, stdout=subprocess.PIPE, check=True).stdout.split()
+    runs = 200
+    own = (seconds(settle, book, runs) - seconds(settle, b"0 1 0\n", runs)) / runs * 1e6
+    decoded, paths = float(decoded), float(paths)
+    print(f"one clearing, 64 bids, 4 pools, {int(orders):,} orders: settle {own:,.0f} us; the decoded plan in a C loop {decoded:,.0f} us "
+          f"({own / decoded:.1f} times); a C greedy by augmenting paths {paths:,.0f} us")
+
+
+if __name__ == "__main__":
+    main()
