@@ -1,4 +1,2 @@
--- What the code of positions cites: digits, the plan's tree walked by position, and what each answer says.
-pub mod Digits
-pub mod Walk
+-- What the contracts of positions cite: what each answer says.
 pub mod Answer

@@ -9,8 +9,7 @@ use definitions::Order;
 use definitions::Verdict;
 use definitions::is_accepted;
 use judging::judge_counts;
-
-mod orders;
+use orders::Entry;
 
 // A position in the plan for n bids and m pools: how many orders come before it.
 pub struct Position {
@@ -50,6 +49,7 @@ impl Position {
         Verdict::Accepted
     }
 
+    // Where there is no order, judging says whether the plan has ended or why the position is refused.
     pub fn ask(self) -> Asked
         ensures answer { λ r. ⌜ answerOf r ≡ asked plan (self .n) (self .m) (self .at) ⌝ }
         ensures same { λ r. ⌜ SamePlan (self .n) (self .m) r ⌝ }
@@ -57,19 +57,16 @@ impl Position {
         let n = self.n;
         let m = self.m;
         let at = self.at;
-        let counts = judge_counts(n, m);
-        if !is_accepted(counts) {
-            return Asked::Refused(counts);
+        match orders::order_at(n, m, at) {
+            Entry::Order(order) => Asked::Order(order, Position { n, m, at: at + 1 }),
+            Entry::Nothing => {
+                let verdict = self.judge();
+                if !is_accepted(verdict) {
+                    return Asked::Refused(verdict);
+                }
+                Asked::Ended
+            }
         }
-        let length = orders::plan_length(n, m);
-        if length < at {
-            return Asked::Refused(Verdict::Position);
-        }
-        if at == length {
-            return Asked::Ended;
-        }
-        let order = orders::order_at(n, m, at);
-        Asked::Order(order, Position { n, m, at: at + 1 })
     }
 }
 
@@ -86,12 +83,8 @@ impl Plan {
         ensures verdict { λ r. ⌜ refusalOf (r .verdict) ≡ countsRefusal n m ⌝ }
         ensures orders { λ r. ⌜ r .orders ≡ total plan n m ⌝ }
     {
-        let verdict = judge_counts(n, m);
-        if !is_accepted(verdict) {
-            return Total { verdict, orders: 0 };
-        }
         Total {
-            verdict,
+            verdict: judge_counts(n, m),
             orders: orders::plan_length(n, m),
         }
     }

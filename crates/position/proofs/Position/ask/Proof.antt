@@ -1,79 +1,74 @@
--- The counts are judged first; if they pass, the position stands past the total, at it or before it.
+-- An order is there before the total only; where there is none, the judge's verdict tells a refusal from the end.
 use mathlib.Core.Path.{_≡_, refl, sym, ap, _∙_}
+use Prim.Native.Nat.{_+_, _<_}
 use native.Mathlib.Omega.{arith}
 use borrow.Author.Needs.{needs}
-use Prim.Native.Nat.{_+_, _<_}
-use lib.ListN.{length}
+use lib.ListN.{getD}
 use Rattle.definitions.specs.declared.Order.{Order}
-use Rattle.definitions.specs.Answers.{none}
-use Rattle.definitions.specs.Calls.{countsRefusal}
-use Rattle.definitions.specs.Plan.{order, refused}
-use Rattle.laws.specs.Sizes.{Counts, counted}
+use Rattle.definitions.specs.declared.Order.the-variants.{Constant}
+use Rattle.definitions.specs.Plan.{order, refused, total}
 use Rattle.laws.specs.Search.{turned-away, let-through}
 use Rattle.plan.specs.Plan.{plan}
-use Rattle.plan.specs.Asking.{refused-by-counts, asked-past, asked-at-end, asked-before-end}
+use Rattle.orders.specs.Entry.{order-there, nothing-there}
+use Rattle.orders.specs.Walk.{total-small}
+use Rattle.position.proofs.Answers.{asked-before-total, asked-refused, asked-from-total}
 use Rattle.position.proofs.Position.ask.Statement.{statement}
 use Rattle.position.proofs.Position.ask.Tie as tie
 
-judge-counts-requires : tie.Need-judge-counts-requires
-judge-counts-requires c κs = search needs
+order-at-requires : tie.Need-order-at-requires
+order-at-requires c κs = search needs
+
+enum-known-order : tie.Need-enum-known-order
+enum-known-order c = search needs
+
+there : (c : tie.After-order) → let p = c .before .before .before .args .self in
+    (p .at < total plan (p .n) (p .m)) × (c .order .given .0 .0 ≡ getD (plan (p .n) (p .m)) (p .at) (Constant 0 0))
+there c =
+    let p = c .before .before .before .args .self in
+    order-there plan (p .n) (p .m) (p .at) _ (sym (c .order .given .1) ∙ c .before .before .order-at .ensures)
+
+add-t9 : tie.Need-add-t9
+add-t9 c =
+    let p = c .before .before .before .before .args .self in
+    omega (arith, there (c .before) .0, total-small (p .n) (p .m))
+
+enum-told : tie.Need-enum-told
+enum-told c = search needs
+
+judge-requires : tie.Need-judge-requires
+judge-requires c κs = search needs
 
 is-accepted-requires : tie.Need-is-accepted-requires
 is-accepted-requires c κs = search needs
 
 returns : tie.Need-returns
 returns c =
-    let p = c .before .before .before .args .self in
-    let judged = c .before .before .judge-counts .ensures in
-    (ap refused judged ∙ sym (refused-by-counts plan (p .n) (p .m) (p .at) (turned-away judged (c .before .is-accepted .ensures) (c .if1 .taken))), tt)
-
-counts-passed : (c : tie.Else1) → let p = c .before .before .before .args .self in countsRefusal (p .n) (p .m) ≡ none
-counts-passed c = let-through (c .before .before .judge-counts .ensures) (c .before .is-accepted .ensures) (c .if1 .left)
-
-plan-length-requires : tie.Need-plan-length-requires
-plan-length-requires c κs =
-    let p = c .before .before .before .args .self in
-    let limits : Counts (p .n) (p .m) = counted _ _ (counts-passed c) in
-    search needs
+    let p = c .before .before .before .before .before .before .args .self in
+    let judged = c .before .before .judge .ensures in
+    (ap refused judged ∙ sym (asked-refused plan (p .n) (p .m) (p .at) (turned-away judged (c .before .is-accepted .ensures) (c .if1 .taken))), tt)
 
 returns-2 : tie.Need-returns-2
 returns-2 c =
-    let p = c .before .before .before .before .before .args .self in
-    (sym (asked-past plan (p .n) (p .m) (p .at) (counts-passed (c .before .before)) (omega (arith, c .if2 .taken, c .before .plan-length .ensures))), tt)
+    let p = c .before .before .before .before .args .self in
+    (ap (λ (o : Order). order o (p .at + 1)) (there (c .before) .1) ∙ sym (asked-before-total plan (p .n) (p .m) (p .at) (there (c .before) .0)), (refl, refl))
 
 returns-3 : tie.Need-returns-3
 returns-3 c =
     let p = c .before .before .before .before .before .before .args .self in
-    (sym (asked-at-end plan (p .n) (p .m) (p .at) (counts-passed (c .before .before .before)) (omega (arith, c .if3 .taken, c .before .before .plan-length .ensures))), tt)
-
-order-at-requires : tie.Need-order-at-requires
-order-at-requires c κs =
-    let p = c .before .before .before .before .before .before .args .self in
-    let limits : Counts (p .n) (p .m) = counted _ _ (counts-passed (c .before .before .before)) in
-    let before-end : p .at < length (plan (p .n) (p .m)) = omega (arith, c .if3 .left, c .before .if2 .left, c .before .before .plan-length .ensures) in
-    search needs
-
-add-t11 : tie.Need-add-t11
-add-t11 c = search needs
-
-returns-4 : tie.Need-returns-4
-returns-4 c =
-    let p = c .before .before .before .before .before .before .before .args .self in (
-      ap (λ (o : Order). order o (p .at + 1)) (c .order-at .ensures)
-          ∙ sym (asked-before-end plan (p .n) (p .m) (p .at) (counts-passed (c .before .before .before .before)) (omega (arith, c .before .if3 .left, c .before .before .if2 .left, c .before .before .before .plan-length .ensures))),
-      (refl, refl),
-    )
+    let nothing = c .before .before .before .enum-told .given .1 in
+    let passed = let-through (c .before .before .judge .ensures) (c .before .is-accepted .ensures) (c .if1 .left) in
+    (sym (asked-from-total plan (p .n) (p .m) (p .at) passed (nothing-there plan (p .n) (p .m) (p .at) (sym nothing ∙ c .before .before .before .before .before .order-at .ensures))), tt)
 
 pub ask-spec : {M : Type 1} → statement M
 ask-spec =
     tie.close
     (tie.spec
-    judge-counts-requires
+    order-at-requires
+    enum-known-order
+    add-t9
+    enum-told
+    judge-requires
     is-accepted-requires
     returns
-    plan-length-requires
     returns-2
-    returns-3
-    order-at-requires
-    add-t11
-    returns-4)
+    returns-3)

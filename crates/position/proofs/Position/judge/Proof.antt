@@ -1,14 +1,13 @@
--- The counts are judged first; if they pass, the position by the length.
+-- The counts are judged first; if they pass, the position by the total.
 use mathlib.Core.Path.{_≡_, sym}
 use native.Mathlib.Omega.{arith}
 use borrow.Author.Needs.{needs}
 use Rattle.definitions.specs.Answers.{none}
 use Rattle.definitions.specs.Calls.{countsRefusal}
 use Rattle.definitions.specs.Plan.{positionRefusal, askRefusal}
-use Rattle.laws.specs.Sizes.{Counts, counted}
 use Rattle.laws.specs.Search.{first-to-refuse, let-through}
 use Rattle.plan.specs.Plan.{plan}
-use Rattle.plan.specs.Asking.{past-total, within-total}
+use Rattle.plan.specs.Asking.{past-total, within-total, total-accepted}
 use Rattle.position.proofs.Position.judge.Statement.{statement}
 use Rattle.position.proofs.Position.judge.Tie as tie
 
@@ -29,20 +28,19 @@ counts-passed : (c : tie.Else1) → let p = c .before .before .before .args .sel
 counts-passed c = let-through (c .before .before .judge-counts .ensures) (c .before .is-accepted .ensures) (c .if1 .left)
 
 plan-length-requires : tie.Need-plan-length-requires
-plan-length-requires c κs =
-    let p = c .before .before .before .args .self in
-    let limits : Counts (p .n) (p .m) = counted _ _ (counts-passed c) in
-    search needs
+plan-length-requires c κs = search needs
 
 returns-2 : tie.Need-returns-2
 returns-2 c =
     let p = c .before .before .before .before .before .args .self in
-    sym (past-total plan (p .n) (p .m) (p .at) (counts-passed (c .before .before)) (omega (arith, c .if2 .taken, c .before .plan-length .ensures)))
+    let passed = counts-passed (c .before .before) in
+    sym (past-total plan (p .n) (p .m) (p .at) passed (omega (arith, c .if2 .taken, c .before .plan-length .ensures, total-accepted plan (p .n) (p .m) passed)))
 
 returns-3 : tie.Need-returns-3
 returns-3 c =
     let p = c .before .before .before .before .before .args .self in
-    sym (within-total plan (p .n) (p .m) (p .at) (counts-passed (c .before .before)) (omega (arith, c .if2 .left, c .before .plan-length .ensures)))
+    let passed = counts-passed (c .before .before) in
+    sym (within-total plan (p .n) (p .m) (p .at) passed (omega (arith, c .if2 .left, c .before .plan-length .ensures, total-accepted plan (p .n) (p .m) passed)))
 
 pub judge-spec : {M : Type 1} → statement M
 judge-spec =

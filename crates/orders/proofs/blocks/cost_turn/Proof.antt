@@ -1,0 +1,50 @@
+-- `cost_turn` meets its contract: the sum first, then the orders of a running minimum.
+use mathlib.Core.Path.{ap, _∙_}
+use Prim.Native.Nat.{ℕ, _-_}
+use native.Mathlib.Omega.{arith}
+use Rattle.plan.specs.Orders.{sum}
+use Rattle.plan.specs.Names.{Temporary, Cut, Subset}
+use Rattle.plan.specs.Subsets.{complement}
+use Rattle.plan.specs.Running.{lowered}
+use Rattle.plan.specs.Blocks.{costTurn}
+use Rattle.orders.specs.Walk.{nameOf, at-place, named-next}
+use borrow.Author.Needs.{needs}
+use Rattle.orders.proofs.blocks.cost_turn.Statement.{statement}
+use Rattle.orders.proofs.blocks.cost_turn.Tie as tie
+
+subset-count-requires : tie.Need-subset-count-requires
+subset-count-requires c κs = search needs
+
+sub-t10 : tie.Need-sub-t10
+sub-t10 c = search needs
+
+sub-t11 : tie.Need-sub-t11
+sub-t11 c = search needs
+
+returns : tie.Need-returns
+returns c =
+    let a = c .before .before .args in
+    ap (λ (k : ℕ). sum (Temporary 2) (Cut (a .s)) (Subset (k - 1 - c .before .before .args .s))) (c .subset-count .ensures .0) ∙ at-place (costTurn (a .m) (nameOf (a .d)) (a .s)) _ 0 (omega (arith, c .before .if1 .taken))
+
+sub-lowered-order : tie.Need-sub-lowered-order
+sub-lowered-order c = search needs
+
+lowered-order-requires : tie.Need-lowered-order-requires
+lowered-order-requires c κs = search needs
+
+returns-2 : tie.Need-returns-2
+returns-2 c =
+    let a = c .before .before .args in
+    c .lowered-order .ensures ∙ named-next (sum (Temporary 2) (Cut (a .s)) (Subset (complement (a .m) (a .s)))) (lowered (nameOf (a .d)) (Temporary 2)) _ (omega (arith, c .before .if1 .left))
+
+pub cost-turn-spec : {M : Type 1} → statement M
+cost-turn-spec =
+    tie.close
+    (tie.spec
+    subset-count-requires
+    sub-t10
+    sub-t11
+    returns
+    sub-lowered-order
+    lowered-order-requires
+    returns-2)

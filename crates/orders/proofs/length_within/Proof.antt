@@ -1,0 +1,138 @@
+-- `length_within` meets its contract: the closed form of the length.
+use Prim.Native.Nat.{_+_, _*_}
+use native.Mathlib.Omega.{arith}
+use Rattle.orders.specs.Walk.{lengths-fit, plan-count}
+use borrow.Author.Needs.{needs}
+use Rattle.orders.proofs.length_within.Statement.{statement}
+use Rattle.orders.proofs.length_within.Tie as tie
+
+subset-count-requires : tie.Need-subset-count-requires
+subset-count-requires c κs = search needs
+
+mul-lines : tie.Need-mul-lines
+mul-lines c =
+    let a = c .before .args in
+    let s = c .subset-count in
+    omega (arith, lengths-fit (a .n) (a .m) (s .result) (omega arith) (omega arith) (omega arith))
+
+mul-result : tie.Need-mul-result
+mul-result c =
+    let a = c .before .args in
+    let s = c .subset-count in
+    omega (arith, lengths-fit (a .n) (a .m) (s .result) (omega arith) (omega arith) (omega arith))
+
+mul-result-2 : tie.Need-mul-result-2
+mul-result-2 c = search needs
+
+add-result : tie.Need-add-result
+add-result c = search needs
+
+mul-result-3 : tie.Need-mul-result-3
+mul-result-3 c =
+    let a = c .before .args in
+    let s = c .subset-count in
+    omega (arith, lengths-fit (a .n) (a .m) (s .result) (omega arith) (omega arith) (omega arith))
+
+mul-result-4 : tie.Need-mul-result-4
+mul-result-4 c = search needs
+
+add-result-2 : tie.Need-add-result-2
+add-result-2 c = search needs
+
+mul-result-5 : tie.Need-mul-result-5
+mul-result-5 c = search needs
+
+add-result-3 : tie.Need-add-result-3
+add-result-3 c = search needs
+
+mul-result-6 : tie.Need-mul-result-6
+mul-result-6 c =
+    let a = c .before .args in
+    let s = c .subset-count in
+    omega (arith, lengths-fit (a .n) (a .m) (s .result) (omega arith) (omega arith) (omega arith))
+
+add-result-4 : tie.Need-add-result-4
+add-result-4 c =
+    let a = c .before .args in
+    let s = c .subset-count in
+    omega (arith, lengths-fit (a .n) (a .m) (s .result) (omega arith) (omega arith) (omega arith))
+
+mul-result-7 : tie.Need-mul-result-7
+mul-result-7 c = search needs
+
+add-result-5 : tie.Need-add-result-5
+add-result-5 c = search needs
+
+mul-result-8 : tie.Need-mul-result-8
+mul-result-8 c =
+    let a = c .before .args in
+    let s = c .subset-count in
+    omega (arith, lengths-fit (a .n) (a .m) (s .result) (omega arith) (omega arith) (omega arith))
+
+add-result-6 : tie.Need-add-result-6
+add-result-6 c =
+    let a = c .before .args in
+    let s = c .subset-count in
+    omega (arith, lengths-fit (a .n) (a .m) (s .result) (omega arith) (omega arith) (omega arith))
+
+mul-result-9 : tie.Need-mul-result-9
+mul-result-9 c =
+    let a = c .before .args in
+    let s = c .subset-count in
+    omega (arith, lengths-fit (a .n) (a .m) (s .result) (omega arith) (omega arith) (omega arith))
+
+add-result-7 : tie.Need-add-result-7
+add-result-7 c =
+    let a = c .before .args in
+    let s = c .subset-count in
+    omega (arith, lengths-fit (a .n) (a .m) (s .result) (omega arith) (omega arith) (omega arith))
+
+mul-result-10 : tie.Need-mul-result-10
+mul-result-10 c =
+    let a = c .before .args in
+    let s = c .subset-count in
+    omega (arith, lengths-fit (a .n) (a .m) (s .result) (omega arith) (omega arith) (omega arith))
+
+add-result-8 : tie.Need-add-result-8
+add-result-8 c =
+    let a = c .before .args in
+    let s = c .subset-count in
+    omega (arith, lengths-fit (a .n) (a .m) (s .result) (omega arith) (omega arith) (omega arith))
+
+add-result-9 : tie.Need-add-result-9
+add-result-9 c =
+    let a = c .before .args in
+    let s = c .subset-count in
+    omega (arith, lengths-fit (a .n) (a .m) (s .result) (omega arith) (omega arith) (omega arith))
+
+returns : tie.Need-returns
+returns c =
+    let s = c .subset-count in
+    plan-count (c .before .args .n) (c .before .args .m) (s .result) (omega arith) (s .ensures .0)
+
+pub length-within-spec : {M : Type 1} → statement M
+length-within-spec =
+    tie.close
+    (tie.spec
+    subset-count-requires
+    mul-lines
+    mul-result
+    mul-result-2
+    add-result
+    mul-result-3
+    mul-result-4
+    add-result-2
+    mul-result-5
+    add-result-3
+    mul-result-6
+    add-result-4
+    mul-result-7
+    add-result-5
+    mul-result-8
+    add-result-6
+    mul-result-9
+    add-result-7
+    mul-result-10
+    add-result-8
+    add-result-9
+    returns)

@@ -1,0 +1,65 @@
+-- `ranks_length` meets its contract: the parts add up to the size.
+use Prim.Native.Nat.{_+_, _*_}
+use native.Mathlib.Omega.{arith}
+use Rattle.orders.specs.Walk.{product-small, ranks-count}
+use borrow.Author.Needs.{needs}
+use Rattle.orders.proofs.work.ranks_length.Statement.{statement}
+use Rattle.orders.proofs.work.ranks_length.Tie as tie
+
+subset-count-requires : tie.Need-subset-count-requires
+subset-count-requires c κs = search needs
+
+mul-result : tie.Need-mul-result
+mul-result c = search needs
+
+add-result : tie.Need-add-result
+add-result c = search needs
+
+mul-result-2 : tie.Need-mul-result-2
+mul-result-2 c = search needs
+
+add-result-2 : tie.Need-add-result-2
+add-result-2 c = search needs
+
+mul-result-3 : tie.Need-mul-result-3
+mul-result-3 c = search needs
+
+add-result-3 : tie.Need-add-result-3
+add-result-3 c = search needs
+
+mul-result-4 : tie.Need-mul-result-4
+mul-result-4 c =
+    let a = c .before .args in
+    omega (arith, product-small (a .n) (1 + (a .m) * 2) 64 9 (omega arith) (omega arith), product-small (a .n) (7 + (a .m) * 2 + (c .subset-count .result) * 12 + (a .n) * (1 + (a .m) * 2)) 64 783 (omega arith) (omega (arith, product-small (a .n) (1 + (a .m) * 2) 64 9 (omega arith) (omega arith))))
+
+add-result-4 : tie.Need-add-result-4
+add-result-4 c =
+    let a = c .before .args in
+    omega (arith, product-small (a .n) (1 + (a .m) * 2) 64 9 (omega arith) (omega arith), product-small (a .n) (7 + (a .m) * 2 + (c .subset-count .result) * 12 + (a .n) * (1 + (a .m) * 2)) 64 783 (omega arith) (omega (arith, product-small (a .n) (1 + (a .m) * 2) 64 9 (omega arith) (omega arith))))
+
+mul-result-5 : tie.Need-mul-result-5
+mul-result-5 c =
+    let a = c .before .args in
+    omega (arith, product-small (a .n) (1 + (a .m) * 2) 64 9 (omega arith) (omega arith), product-small (a .n) (7 + (a .m) * 2 + (c .subset-count .result) * 12 + (a .n) * (1 + (a .m) * 2)) 64 783 (omega arith) (omega (arith, product-small (a .n) (1 + (a .m) * 2) 64 9 (omega arith) (omega arith))))
+
+returns : tie.Need-returns
+returns c =
+    let a = c .before .args in
+    let s = c .subset-count in
+    (ranks-count (a .n) (a .m) (s .result) (s .ensures .0), omega (arith, product-small (a .n) (1 + (a .m) * 2) 64 9 (omega arith) (omega arith), product-small (a .n) (7 + (a .m) * 2 + (s .result) * 12 + (a .n) * (1 + (a .m) * 2)) 64 783 (omega arith) (omega (arith, product-small (a .n) (1 + (a .m) * 2) 64 9 (omega arith) (omega arith)))))
+
+pub ranks-length-spec : {M : Type 1} → statement M
+ranks-length-spec =
+    tie.close
+    (tie.spec
+    subset-count-requires
+    mul-result
+    add-result
+    mul-result-2
+    add-result-2
+    mul-result-3
+    add-result-3
+    mul-result-4
+    add-result-4
+    mul-result-5
+    returns)

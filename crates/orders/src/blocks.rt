@@ -1,0 +1,290 @@
+// Blocks of orders over names: the order at a place of its block.
+ghost use mathlib.Core.Path.{_≡_};
+ghost use Prim.Native.Nat.{_<_, _≤_, _^_};
+ghost use Rattle.definitions.specs.Limits.{poolLimit};
+ghost use Rattle.plan.specs.Running.{lowered, raised, subsetBlock};
+ghost use Rattle.plan.specs.Blocks.{sizeBlock, demandTurn, cutTurn, testOrder, gain, costTurn, amountBlock, placementTurn, restTurn, takeTurn, offerBlock, peakTurn, priceBlock};
+ghost use Rattle.orders.specs.Walk.{nameOf, namedOf, named};
+use crate::names::CellName;
+use crate::names::Family;
+use crate::names::Kind;
+use crate::names::NamedOrder;
+use crate::sets::is_leaving;
+use crate::sets::other_pools;
+use crate::sets::subset_count;
+
+// The size of bid i.
+pub fn size_order(i: usize, r: usize) -> NamedOrder
+    requires { ⌜ r < 3 ⌝ }
+    ensures { λ o. ⌜ namedOf o ≡ named (sizeBlock i) r ⌝ }
+{
+    let first = CellName(Family::TEMPORARIES, 0, 0);
+    let quantity = CellName(Family::BIDS, i, 2);
+    let second = CellName(Family::TEMPORARIES, 1, 0);
+    if r == 0 {
+        let side = CellName(Family::SIDES, i, 0);
+        return NamedOrder::Operate(Kind::PRODUCT, first, quantity, side);
+    }
+    if r == 1 {
+        return NamedOrder::Operate(Kind::DIFFERENCE, second, quantity, first);
+    }
+    let size = CellName(Family::SIZES, i, 0);
+    NamedOrder::Operate(Kind::DIFFERENCE, size, first, second)
+}
+
+// The demand of bid i added to that of pool p.
+pub fn demand_turn(p: usize, i: usize, r: usize) -> NamedOrder
+    requires { ⌜ r < 2 ⌝ }
+    ensures { λ o. ⌜ namedOf o ≡ named (demandTurn p i) r ⌝ }
+{
+    let first = CellName(Family::TEMPORARIES, 0, 0);
+    if r == 0 {
+        let side = CellName(Family::SIDES, i, 0);
+        let weight = CellName(Family::WEIGHTS, i, p);
+        return NamedOrder::Operate(Kind::PRODUCT, first, side, weight);
+    }
+    let demand = CellName(Family::DEMANDS, p, 0);
+    NamedOrder::Operate(Kind::SUM, demand, demand, first)
+}
+
+// The size of bid j in pool p, where the test said that it is before bid i.
+pub fn gain_order(i: usize, j: usize, p: usize, r: usize) -> NamedOrder
+    requires { ⌜ r < 2 ⌝ }
+    ensures { λ o. ⌜ namedOf o ≡ named (gain i j p) r ⌝ }
+{
+    let second = CellName(Family::TEMPORARIES, 1, 0);
+    if r == 0 {
+        let first = CellName(Family::TEMPORARIES, 0, 0);
+        let weight = CellName(Family::WEIGHTS, j, p);
+        return NamedOrder::Operate(Kind::PRODUCT, second, first, weight);
+    }
+    let ahead = CellName(Family::AHEADS, i, p);
+    NamedOrder::Operate(Kind::SUM, ahead, ahead, second)
+}
+
+// The lesser of d and a, to d.
+fn lowered_order(d: CellName, a: CellName, r: usize) -> NamedOrder
+    requires { ⌜ r < 4 ⌝ }
+    ensures { λ o. ⌜ namedOf o ≡ named (lowered (nameOf d) (nameOf a)) r ⌝ }
+{
+    let first = CellName(Family::TEMPORARIES, 0, 0);
+    let second = CellName(Family::TEMPORARIES, 1, 0);
+    if r == 0 {
+        return NamedOrder::Operate(Kind::LESS, first, a, d);
+    }
+    if r == 1 {
+        return NamedOrder::Operate(Kind::DIFFERENCE, second, a, d);
+    }
+    if r == 2 {
+        return NamedOrder::Operate(Kind::PRODUCT, first, first, second);
+    }
+    NamedOrder::Operate(Kind::SUM, d, d, first)
+}
+
+// The greater of d and a, to d.
+fn raised_order(d: CellName, a: CellName, r: usize) -> NamedOrder
+    requires { ⌜ r < 4 ⌝ }
+    ensures { λ o. ⌜ namedOf o ≡ named (raised (nameOf d) (nameOf a)) r ⌝ }
+{
+    let first = CellName(Family::TEMPORARIES, 0, 0);
+    let second = CellName(Family::TEMPORARIES, 1, 0);
+    if r == 0 {
+        return NamedOrder::Operate(Kind::LESS, first, d, a);
+    }
+    if r == 1 {
+        return NamedOrder::Operate(Kind::DIFFERENCE, second, a, d);
+    }
+    if r == 2 {
+        return NamedOrder::Operate(Kind::PRODUCT, first, first, second);
+    }
+    NamedOrder::Operate(Kind::SUM, d, d, first)
+}
+
+// The accepted amount of bid i.
+pub fn amount_order(i: usize, r: usize) -> NamedOrder
+    requires { ⌜ r < 4 ⌝ }
+    ensures { λ o. ⌜ namedOf o ≡ named (amountBlock i) r ⌝ }
+{
+    let first = CellName(Family::TEMPORARIES, 0, 0);
+    let used = CellName(Family::USES, i, 0);
+    if r == 0 {
+        let size = CellName(Family::SIZES, i, 0);
+        return NamedOrder::Operate(Kind::DIFFERENCE, first, size, used);
+    }
+    if r == 1 {
+        return NamedOrder::Operate(Kind::DIFFERENCE, first, first, used);
+    }
+    if r == 2 {
+        let side = CellName(Family::SIDES, i, 0);
+        return NamedOrder::Operate(Kind::PRODUCT, first, first, side);
+    }
+    let amount = CellName(Family::AMOUNTS, i, 0);
+    NamedOrder::Operate(Kind::SUM, amount, used, first)
+}
+
+// The used amount of bid i added to that of pool p.
+pub fn placement_turn(p: usize, i: usize, r: usize) -> NamedOrder
+    requires { ⌜ r < 2 ⌝ }
+    ensures { λ o. ⌜ namedOf o ≡ named (placementTurn p i) r ⌝ }
+{
+    let first = CellName(Family::TEMPORARIES, 0, 0);
+    if r == 0 {
+        let place = CellName(Family::PLACES, i, p);
+        let used = CellName(Family::USES, i, 0);
+        return NamedOrder::Operate(Kind::PRODUCT, first, place, used);
+    }
+    let placement = CellName(Family::PLACEMENTS, p, 0);
+    NamedOrder::Operate(Kind::SUM, placement, placement, first)
+}
+
+// The offer of bid i.
+pub fn offer_order(i: usize, r: usize) -> NamedOrder
+    requires { ⌜ r < 4 ⌝ }
+    ensures { λ o. ⌜ namedOf o ≡ named (offerBlock i) r ⌝ }
+{
+    let first = CellName(Family::TEMPORARIES, 0, 0);
+    let second = CellName(Family::TEMPORARIES, 1, 0);
+    if r == 0 {
+        let blank = CellName(Family::BLANKS, 0, 0);
+        let amount = CellName(Family::AMOUNTS, i, 0);
+        return NamedOrder::Operate(Kind::LESS, first, blank, amount);
+    }
+    if r == 1 {
+        let one = CellName(Family::UNITS, 0, 0);
+        let side = CellName(Family::SIDES, i, 0);
+        return NamedOrder::Operate(Kind::DIFFERENCE, second, one, side);
+    }
+    if r == 2 {
+        return NamedOrder::Operate(Kind::PRODUCT, first, first, second);
+    }
+    let offer = CellName(Family::OFFERS, i, 0);
+    let rate = CellName(Family::RATES, i, 0);
+    NamedOrder::Operate(Kind::PRODUCT, offer, first, rate)
+}
+
+// The price and presence of pool p.
+pub fn price_order(p: usize, r: usize) -> NamedOrder
+    requires { ⌜ r < 3 ⌝ }
+    ensures { λ o. ⌜ namedOf o ≡ named (priceBlock p) r ⌝ }
+{
+    let presence = CellName(Family::PRICES, p, 1);
+    let peak = CellName(Family::PEAKS, p, 0);
+    let first = CellName(Family::TEMPORARIES, 0, 0);
+    if r == 0 {
+        let blank = CellName(Family::BLANKS, 0, 0);
+        return NamedOrder::Operate(Kind::LESS, presence, blank, peak);
+    }
+    if r == 1 {
+        let shift = CellName(Family::SHIFTS, 0, 0);
+        return NamedOrder::Operate(Kind::DIFFERENCE, first, peak, shift);
+    }
+    let pool_price = CellName(Family::PRICES, p, 0);
+    NamedOrder::Operate(Kind::PRODUCT, pool_price, first, presence)
+}
+
+// Order s of the sums over all subsets; a is the cell of the set's lowest pool.
+pub fn subset_order(m: usize, s: usize, a: CellName) -> NamedOrder
+    ensures { λ o. ⌜ namedOf o ≡ named (subsetBlock m (λ p. nameOf a) s) 0 ⌝ }
+{
+    let subset = CellName(Family::SUBSETS, s, 0);
+    if s == 0 {
+        return NamedOrder::Constant(subset, 0);
+    }
+    let other = CellName(Family::SUBSETS, other_pools(m, s), 0);
+    NamedOrder::Operate(Kind::SUM, subset, other, a)
+}
+
+// Is bid j before bid i?
+pub fn test_order(i: usize, j: usize) -> NamedOrder
+    ensures { λ o. ⌜ namedOf o ≡ testOrder i j ⌝ }
+{
+    let first = CellName(Family::TEMPORARIES, 0, 0);
+    if j < i {
+        let key = CellName(Family::KEYS, j, 0);
+        let next = CellName(Family::NEXTS, i, 0);
+        return NamedOrder::Operate(Kind::LESS, first, key, next);
+    }
+    if i < j {
+        let double = CellName(Family::DOUBLES, j, 0);
+        let key = CellName(Family::KEYS, i, 0);
+        return NamedOrder::Operate(Kind::LESS, first, double, key);
+    }
+    let blank = CellName(Family::BLANKS, 0, 0);
+    NamedOrder::Operate(Kind::LESS, first, blank, blank)
+}
+
+// Line a to b's part of the cut of s.
+pub fn cut_turn(s: usize, a: usize, b: usize) -> NamedOrder
+    ensures { λ o. ⌜ namedOf o ≡ named (cutTurn s a b) 0 ⌝ }
+{
+    let cut = CellName(Family::CUTS, s, 0);
+    if is_leaving(s, a, b) {
+        let capacity = CellName(Family::CAPACITIES, a, b);
+        return NamedOrder::Operate(Kind::SUM, cut, cut, capacity);
+    }
+    let blank = CellName(Family::BLANKS, 0, 0);
+    NamedOrder::Operate(Kind::SUM, cut, cut, blank)
+}
+
+// The least of what line a to b leaves, with set s.
+pub fn rest_turn(a: usize, b: usize, s: usize, r: usize) -> NamedOrder
+    requires { ⌜ r < 4 ⌝ }
+    ensures { λ o. ⌜ namedOf o ≡ named (restTurn a b s) r ⌝ }
+{
+    let third = CellName(Family::TEMPORARIES, 2, 0);
+    if is_leaving(s, a, b) {
+        let slack = CellName(Family::SLACKS, s, 0);
+        return lowered_order(third, slack, r);
+    }
+    let capacity = CellName(Family::CAPACITIES, a, b);
+    lowered_order(third, capacity, r)
+}
+
+// What line l, a to b, takes off the slack of s.
+pub fn take_turn(l: usize, a: usize, b: usize, s: usize) -> NamedOrder
+    ensures { λ o. ⌜ namedOf o ≡ named (takeTurn l a b s) 0 ⌝ }
+{
+    let slack = CellName(Family::SLACKS, s, 0);
+    if is_leaving(s, a, b) {
+        let third = CellName(Family::TEMPORARIES, 2, 0);
+        return NamedOrder::Operate(Kind::DIFFERENCE, slack, slack, third);
+    }
+    if is_leaving(s, b, a) {
+        let flow = CellName(Family::FLOWS, l, 0);
+        return NamedOrder::Operate(Kind::DIFFERENCE, slack, slack, flow);
+    }
+    let blank = CellName(Family::BLANKS, 0, 0);
+    NamedOrder::Operate(Kind::DIFFERENCE, slack, slack, blank)
+}
+
+// Order r of what the set s costs, with the least in d.
+pub fn cost_turn(m: usize, d: CellName, s: usize, r: usize) -> NamedOrder
+    requires { ⌜ m ≤ poolLimit ⌝ }
+    requires { ⌜ s < 2 ^ m ⌝ }
+    requires { ⌜ r < 5 ⌝ }
+    ensures { λ o. ⌜ namedOf o ≡ named (costTurn m (nameOf d) s) r ⌝ }
+{
+    let third = CellName(Family::TEMPORARIES, 2, 0);
+    if r == 0 {
+        let sets = subset_count(m);
+        let cut = CellName(Family::CUTS, s, 0);
+        let outside = CellName(Family::SUBSETS, sets - 1 - s, 0);
+        return NamedOrder::Operate(Kind::SUM, third, cut, outside);
+    }
+    lowered_order(d, third, r - 1)
+}
+
+// Order r of bid i's offer in pool p.
+pub fn peak_turn(p: usize, i: usize, r: usize) -> NamedOrder
+    requires { ⌜ r < 5 ⌝ }
+    ensures { λ o. ⌜ namedOf o ≡ named (peakTurn p i) r ⌝ }
+{
+    let third = CellName(Family::TEMPORARIES, 2, 0);
+    if r == 0 {
+        let place = CellName(Family::PLACES, i, p);
+        let offer = CellName(Family::OFFERS, i, 0);
+        return NamedOrder::Operate(Kind::PRODUCT, third, place, offer);
+    }
+    let peak = CellName(Family::PEAKS, p, 0);
+    raised_order(peak, third, r - 1)
+}

@@ -1,0 +1,2 @@
+-- What the proof of asking at a position cites.
+pub mod Answers

@@ -1,0 +1,3 @@
+-- Laws that several proofs here cite.
+pub mod Listed
+pub mod Texts
