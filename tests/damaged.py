@@ -1,0 +1,70 @@
+"""Holds the runner to the reader and the machine written apart, on whole, cut and damaged plans: python3 tests/damaged.py REPLAY DUMP [PLANS] [SEED]
+
+REPLAY is the program that runs the plan bytes of its input on an empty sheet, DUMP the program of tests/dump.c."""
+import random
+import subprocess
+import sys
+
+import orders
+
+
+def expected(data):
+    try:
+        found = orders.orders(data)
+    except orders.Refused as refusal:
+        return "refused %d %d\n" % refusal.args
+    sheet = orders.run(found, [0] * orders.CELLS)
+    return f"orders {len(found)}\n" + "".join(f"cell {c} {v}\n" for c, v in enumerate(sheet) if v)
+
+
+def order(draw):
+    cell = lambda: draw.choice([0, 1, 2, 127, 128, 300, 4095, draw.randrange(4096)])
+    kind = draw.randrange(6)
+    if kind == 0:
+        return [0, cell(), draw.choice([0, 1, 127, 128, 16_383, 16_384, orders.P - 1, draw.randrange(orders.P)])]
+    return [kind, cell(), cell(), cell()]
+
+
+def longer(value, groups):
+    """A number in more groups than it needs."""
+    out = orders.groups(value)
+    out[-1] += 128
+    return bytes(out + [128] * (groups - len(out) - 1) + [0])
+
+
+def damaged(draw, data):
+    kind = draw.randrange(8)
+    data = bytearray(data)
+    at = draw.randrange(len(data) + 1)
+    if kind == 0:
+        return bytes(data[:at])
+    if kind == 1:
+        data[at:at] = longer(draw.randrange(200), draw.randint(3, 6))
+    elif kind == 2:
+        data[at:at] = bytes([draw.choice([6, 7, 127, 134, 255])])
+    elif kind == 3:
+        data[at:at] = bytes(orders.groups(draw.choice([4_096, orders.P, orders.P + 1, 2**32 - 1, 2**32, 2**35 - 1])))
+    elif kind == 4:
+        data[at:at] = bytes([128] * draw.randint(1, 6))
+    elif data and kind < 7:
+        for _ in range(draw.randint(1, 3)):
+            data[draw.randrange(len(data))] = draw.randrange(256)
+    return bytes(data)
+
+
+def main():
+    replay, dump = sys.argv[1:3]
+    count = int(sys.argv[3]) if len(sys.argv) > 3 else 500
+    draw = random.Random(int(sys.argv[4]) if len(sys.argv) > 4 else 1)
+    plan = subprocess.run([dump, "2", "2"], stdout=subprocess.PIPE, check=True).stdout
+    for k in range(count):
+        data = plan if k % 20 == 0 else b"".join(orders.encoded(order(draw)) for _ in range(draw.randint(0, 6)))
+        if k % 4:
+            data = damaged(draw, data)
+        output = subprocess.run([replay], input=data, stdout=subprocess.PIPE, check=True).stdout.decode("ascii")
+        assert output == expected(data), (data.hex(), output, expected(data))
+    print(f"{count} plans, whole, cut and damaged: the runner answers as the reader and the machine written apart")
+
+
+if __name__ == "__main__":
+    main()
