@@ -203,9 +203,11 @@ ranks-count n m s e = rw e (omega arith)
 pub flow-count : (n m s : ℕ) → s ≡ 2 ^ m → m * (1 + n * 2) + s * 2 + m * m * (2 + s * 5) ≡ size (flowTree n m)
 flow-count n m s e = rw e (omega arith)
 
--- the products of the plan's length, for counts within their limits and the count of sets
-pub lengths-fit : (n m s : ℕ) → n ≤ bidLimit → m ≤ poolLimit → s ≤ 16
-    → (m * m ≤ 16) × (n * n ≤ 4096) × (n * n * (1 + 2 * m) ≤ 36864) × (n * (29 + 17 * m + 12 * s) ≤ 18496) × (s * (7 + 6 * (m * m)) ≤ 1648)
+-- the products of the plan's length are small, for counts within their limits and s the count of sets
+abbrev pub LengthsFit : (n m s : ℕ) → Type 0
+LengthsFit n m s = (m * m ≤ 16) × (n * n ≤ 4096) × (n * n * (1 + 2 * m) ≤ 36864) × (n * (29 + 17 * m + 12 * s) ≤ 18496) × (s * (7 + 6 * (m * m)) ≤ 1648)
+
+pub lengths-fit : (n m s : ℕ) → n ≤ bidLimit → m ≤ poolLimit → s ≤ 16 → LengthsFit n m s
 lengths-fit n m s h k l =
     let lines : m * m ≤ 16 = product-small m m 4 4 k k in
     let pairs : n * n ≤ 4096 = product-small n n 64 64 h h in (

@@ -1,7 +1,6 @@
 -- `length_within` meets its contract: the closed form of the length.
-use Prim.Native.Nat.{_+_, _*_}
 use native.Mathlib.Omega.{arith}
-use Rattle.orders.specs.Walk.{lengths-fit, plan-count}
+use Rattle.orders.specs.Walk.{LengthsFit, lengths-fit, plan-count}
 use borrow.Author.Needs.{needs}
 use Rattle.orders.proofs.length_within.Statement.{statement}
 use Rattle.orders.proofs.length_within.Tie as tie
@@ -9,17 +8,14 @@ use Rattle.orders.proofs.length_within.Tie as tie
 subset-count-requires : tie.Need-subset-count-requires
 subset-count-requires c κs = search needs
 
+small : (c : tie.After-subset-count) → LengthsFit (c .before .args .n) (c .before .args .m) (c .subset-count .result)
+small c = lengths-fit _ _ _ (omega arith) (omega arith) (omega arith)
+
 mul-lines : tie.Need-mul-lines
-mul-lines c =
-    let a = c .before .args in
-    let s = c .subset-count in
-    omega (arith, lengths-fit (a .n) (a .m) (s .result) (omega arith) (omega arith) (omega arith))
+mul-lines c = omega (arith, small c)
 
 mul-result : tie.Need-mul-result
-mul-result c =
-    let a = c .before .args in
-    let s = c .subset-count in
-    omega (arith, lengths-fit (a .n) (a .m) (s .result) (omega arith) (omega arith) (omega arith))
+mul-result c = omega (arith, small c)
 
 mul-result-2 : tie.Need-mul-result-2
 mul-result-2 c = search needs
@@ -28,10 +24,7 @@ add-result : tie.Need-add-result
 add-result c = search needs
 
 mul-result-3 : tie.Need-mul-result-3
-mul-result-3 c =
-    let a = c .before .args in
-    let s = c .subset-count in
-    omega (arith, lengths-fit (a .n) (a .m) (s .result) (omega arith) (omega arith) (omega arith))
+mul-result-3 c = omega (arith, small c)
 
 mul-result-4 : tie.Need-mul-result-4
 mul-result-4 c = search needs
@@ -46,16 +39,10 @@ add-result-3 : tie.Need-add-result-3
 add-result-3 c = search needs
 
 mul-result-6 : tie.Need-mul-result-6
-mul-result-6 c =
-    let a = c .before .args in
-    let s = c .subset-count in
-    omega (arith, lengths-fit (a .n) (a .m) (s .result) (omega arith) (omega arith) (omega arith))
+mul-result-6 c = omega (arith, small c)
 
 add-result-4 : tie.Need-add-result-4
-add-result-4 c =
-    let a = c .before .args in
-    let s = c .subset-count in
-    omega (arith, lengths-fit (a .n) (a .m) (s .result) (omega arith) (omega arith) (omega arith))
+add-result-4 c = omega (arith, small c)
 
 mul-result-7 : tie.Need-mul-result-7
 mul-result-7 c = search needs
@@ -64,46 +51,25 @@ add-result-5 : tie.Need-add-result-5
 add-result-5 c = search needs
 
 mul-result-8 : tie.Need-mul-result-8
-mul-result-8 c =
-    let a = c .before .args in
-    let s = c .subset-count in
-    omega (arith, lengths-fit (a .n) (a .m) (s .result) (omega arith) (omega arith) (omega arith))
+mul-result-8 c = omega (arith, small c)
 
 add-result-6 : tie.Need-add-result-6
-add-result-6 c =
-    let a = c .before .args in
-    let s = c .subset-count in
-    omega (arith, lengths-fit (a .n) (a .m) (s .result) (omega arith) (omega arith) (omega arith))
+add-result-6 c = omega (arith, small c)
 
 mul-result-9 : tie.Need-mul-result-9
-mul-result-9 c =
-    let a = c .before .args in
-    let s = c .subset-count in
-    omega (arith, lengths-fit (a .n) (a .m) (s .result) (omega arith) (omega arith) (omega arith))
+mul-result-9 c = omega (arith, small c)
 
 add-result-7 : tie.Need-add-result-7
-add-result-7 c =
-    let a = c .before .args in
-    let s = c .subset-count in
-    omega (arith, lengths-fit (a .n) (a .m) (s .result) (omega arith) (omega arith) (omega arith))
+add-result-7 c = omega (arith, small c)
 
 mul-result-10 : tie.Need-mul-result-10
-mul-result-10 c =
-    let a = c .before .args in
-    let s = c .subset-count in
-    omega (arith, lengths-fit (a .n) (a .m) (s .result) (omega arith) (omega arith) (omega arith))
+mul-result-10 c = omega (arith, small c)
 
 add-result-8 : tie.Need-add-result-8
-add-result-8 c =
-    let a = c .before .args in
-    let s = c .subset-count in
-    omega (arith, lengths-fit (a .n) (a .m) (s .result) (omega arith) (omega arith) (omega arith))
+add-result-8 c = omega (arith, small c)
 
 add-result-9 : tie.Need-add-result-9
-add-result-9 c =
-    let a = c .before .args in
-    let s = c .subset-count in
-    omega (arith, lengths-fit (a .n) (a .m) (s .result) (omega arith) (omega arith) (omega arith))
+add-result-9 c = omega (arith, small c)
 
 returns : tie.Need-returns
 returns c =
