@@ -2,3 +2,4 @@
 pub mod Digits
 pub mod Walk
 pub mod Entry
+pub mod Starts

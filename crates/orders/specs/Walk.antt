@@ -1,4 +1,4 @@
--- What a function of the code needs to know of the plan's tree, of its families and of powers of 2.
+-- What a function of the code needs to know of the plan's tree, of its families, of its length and of powers of 2.
 use mathlib.Core.Path.{_≡_, refl, sym, ap, subst, _∙_}
 use mathlib.Core.Logic.{_≢_}
 use mathlib.Core.Bool.{Bool, true, false, cond}
@@ -26,7 +26,7 @@ use Rattle.plan.specs.Tree.{Tree, orders, seq, rep, blocks, flat, size, entry, 
 use Rattle.plan.specs.Subsets.{leaves, lowest, others}
 use Rattle.plan.specs.Running.{lowered, subsetOrder, subsetBlock}
 use Rattle.plan.specs.Blocks.{testAt, testOrder, cutTurn, restCell, restTurn, takenCell, takeTurn}
-use Rattle.plan.specs.Names.{temporaries, Blank, Temporary, Capacity, Cut, Slack, Subset, familyCount, rowTable, rowsOf, columnsOf}
+use Rattle.plan.specs.Names.{temporaries, Blank, Temporary, Capacity, Cut, Slack, Subset, familyCount, rowsOf, columnsOf}
 use Rattle.plan.specs.Work.{rankSize, bidTree, cutsTree, rankTrees, flowTree, priceTree, work}
 use Rattle.plan.specs.Proper.{Valid, Proper, work-proper, work-fair}
 use Rattle.plan.specs.Layout.{base-grows}
@@ -42,10 +42,6 @@ product-small a b x y h k = omega (arith, mul-le-mul-right b h, mul-le-mul-right
 
 -- ---- where the families begin
 
-pub from-first : (n m : ℕ) → 0 ≡ from n m 0
-unfolding from sumTo
-from-first n m = refl
-
 pub from-next : (n m u : ℕ) → from n m (suc u) ≡ from n m u + rowsOf n m u * columnsOf n m u
 unfolding from sumTo
 from-next n m u = refl
@@ -57,10 +53,6 @@ from-small n m u h k l = omega (arith, base-grows (rowsOf n m) (columnsOf n m) u
 -- a family's table ends on the sheet
 pub table-fits : (n m u : ℕ) → n ≤ bidLimit → m ≤ poolLimit → u < familyCount → from n m u + rowsOf n m u * columnsOf n m u ≤ cellCount
 table-fits n m u h k l = omega (arith, from-next n m u, from-small n m (suc u) h k l)
-
--- the same where the count of sets is known by an equation
-pub table-with : (n m s u : ℕ) → s ≡ 2 ^ m → getD (rowTable n m (m * m) s) u 0 * columnsOf n m u ≡ rowsOf n m u * columnsOf n m u
-table-with n m s u e = ap (λ (x : ℕ). getD (rowTable n m (m * m) x) u 0 * columnsOf n m u) e
 
 -- ---- orders over names, as the code makes them
 

@@ -8,7 +8,7 @@ use borrow.Author.Tests.{le-ltb}
 use Rattle.definitions.specs.declared.Order.the-variants.{Constant}
 use Rattle.definitions.specs.Answers.{Refusal, none, refuse, isNone}
 use Rattle.definitions.specs.Calls.{countsRefusal}
-use Rattle.definitions.specs.Plan.{Plan, Answer, order, ended, refused, answered, positionRefusal, entry, askRefusal, asked, total}
+use Rattle.definitions.specs.Plan.{Plan, order, ended, refused, answered, positionRefusal, entry, askRefusal, asked, total}
 use Rattle.laws.specs.Refusal.{first-left}
 use Rattle.plan.specs.Asking.{asked-before-end, total-accepted}
 use Rattle.orders.specs.Entry.{counts-before}

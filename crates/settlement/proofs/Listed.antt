@@ -1,8 +1,8 @@
 -- A sheet that opening does not refuse: its results are those defined, and there is a listing of them wherever there is room.
-use Prim.Native.Nat.{ℕ, _+_, _*_, _≤_}
+use Prim.Native.Nat.{ℕ, _+_, _≤_}
 use mathlib.Core.Path.{_≡_, refl, sym, ap, _∙_}
 use mathlib.Core.Bool.{Bool, true, false, _&&_, true≢false}
-use mathlib.Core.List.{List, map}
+use mathlib.Core.List.{List}
 use native.Mathlib.Omega.{arith}
 use native.Mathlib.Nat.{mul-le-mul-right}
 use lib.Dec.{eqb, leb}
@@ -16,7 +16,7 @@ use Rattle.definitions.specs.Sheet.{firstResult, resultCount}
 use Rattle.definitions.specs.Answers.{Refusal, none, first, unless, isNone}
 use Rattle.definitions.specs.Calls.{countsRefusal, lengthRefusal, cellsRefusal, openRefusal, openedResults, openSlice}
 use Rattle.definitions.specs.Settle.{listing}
-use Rattle.laws.specs.Tests.{and-left, and-right}
+use Rattle.laws.specs.Tests.{and-left}
 use Rattle.laws.specs.Refusal.{first-left, first-right}
 use Rattle.laws.specs.Sizes.{Counts, counted}
 use Rattle.listing.specs.Text.{textRoom, textSize, textSlice, listable, listingSize, listingSlice}

@@ -1,9 +1,7 @@
 -- The sheet that clearing leaves for an accepted book is a sheet, and opening does not refuse it (`plan-opens`).
 use Prim.Native.Nat.{ℕ}
-use mathlib.Core.Path.{_≡_, refl, sym, ap, _∙_}
-use mathlib.Core.Bool.{Bool, true, false, _&&_}
+use mathlib.Core.Path.{_≡_, refl}
 use mathlib.Core.List.{List, [], _∷_}
-use lib.Dec.{eqb}
 use lib.ListN.{length}
 use borrow.Author.Tests.{eq-eqb}
 use Rattle.definitions.specs.declared.Order.{Order}
@@ -11,8 +9,8 @@ use Rattle.definitions.specs.Limits.{cellCount}
 use Rattle.definitions.specs.Book.{Book}
 use Rattle.definitions.specs.Sheet.{sealedSheet, resultCount}
 use Rattle.definitions.specs.Machine.{IsSheet, AllWellFormed}
-use Rattle.definitions.specs.Answers.{Refusal, none, first}
-use Rattle.definitions.specs.Calls.{AcceptedBook, sealRefusal, countsRefusal, lengthRefusal, cellsRefusal, openRefusal}
+use Rattle.definitions.specs.Answers.{none}
+use Rattle.definitions.specs.Calls.{AcceptedBook, sealRefusal, countsRefusal, openRefusal}
 use Rattle.definitions.specs.Outcome.{planRun}
 use Rattle.laws.specs.Refusal.{first-left}
 use Rattle.laws.specs.AcceptedBook.{Sound, accepted-sound}

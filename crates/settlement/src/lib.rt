@@ -3,7 +3,7 @@
 ghost use mathlib.Core.Path.{_≡_};
 ghost use lib.ListN.{length};
 ghost use lib.Dec.{leb};
-ghost use Rattle.definitions.specs.Answers.{refusalOf, numberOf, placeOf, none};
+ghost use Rattle.definitions.specs.Answers.{refusalOf, none};
 ghost use Rattle.definitions.specs.Book.{book};
 ghost use Rattle.definitions.specs.Calls.{openRefusal, openedResults};
 ghost use Rattle.definitions.specs.Settle.{listing, readable, refused};

@@ -1,5 +1,5 @@
 -- `order_at` meets its contract: before the total the counts are accepted and the plan has an order, from it on there is nothing.
-use mathlib.Core.Path.{_≡_, ap, _∙_}
+use mathlib.Core.Path.{ap, _∙_}
 use Prim.Native.Nat.{_<_}
 use native.Mathlib.Omega.{arith}
 use borrow.Author.Needs.{needs}

@@ -1,5 +1,5 @@
 -- `list_results` meets its contract: opening refuses nothing, and its results are as many as the listing asks for.
-use mathlib.Core.Path.{_≡_, refl, _∙_}
+use mathlib.Core.Path.{refl, _∙_}
 use lib.ListN.{length}
 use mir.Facts.{toZ-ofZ}
 use borrow.Author.Needs.{needs}

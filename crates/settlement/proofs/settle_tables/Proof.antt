@@ -1,14 +1,12 @@
 -- `settle_tables` meets its contract: refused counts are a refused book, and others call for no more numbers than a text gives.
-use Prim.Native.Nat.{ℕ, _+_, _-_, _*_, _≤_}
+use Prim.Native.Nat.{ℕ, _-_, _*_, _≤_}
 use mathlib.Core.Path.{_≡_, sym, ap, _∙_}
 use mathlib.Core.Bool.{false}
-use mathlib.Core.List.{List}
 use native.Mathlib.Omega.{arith}
-use lib.IntN.{ℤ}
 use lib.ListN.{length, take, drop}
 use lib.Seq.{length-take-le}
 use borrow.Author.Needs.{needs}
-use Rattle.definitions.specs.Answers.{refusalOf, none, isNone}
+use Rattle.definitions.specs.Answers.{refusalOf, isNone}
 use Rattle.definitions.specs.Limits.{bidNumbers}
 use Rattle.definitions.specs.Book.{Book, book}
 use Rattle.definitions.specs.Calls.{countsRefusal, sealRefusal}

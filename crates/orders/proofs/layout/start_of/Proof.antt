@@ -1,85 +1,118 @@
--- `start_of` meets its contract. Invariant: `start` is where family u begins; the measure is t - u.
-use mathlib.Core.Path.{_≡_, ap, _∙_}
-use Prim.Native.Nat.{_≤_, _-_}
-use native.Mathlib.Numerals.{add-one}
+-- `start_of` meets its contract: the sum is where the family begins, so it and its parts are on the sheet.
 use native.Mathlib.Omega.{arith}
-use borrow.Author.Tests.{ltb-true, ltb-false}
 use borrow.Author.Needs.{needs}
-use Rattle.plan.specs.Plan.{from}
-use Rattle.orders.specs.Walk.{product-small, from-first, from-next, table-fits, table-with}
+use Rattle.orders.specs.Starts.{StartSum, start-sum}
 use Rattle.orders.proofs.layout.start_of.Statement.{statement}
 use Rattle.orders.proofs.layout.start_of.Tie as tie
 
-abbrev Inv-loop : tie.InvT-loop
-Inv-loop n m t lines sets rows columns u₀ start₀ u start = (u ≤ t) × (start ≡ from n m u)
-
-abbrev μ-loop : tie.MeasureT-loop
-μ-loop n m t lines sets rows columns u₀ start₀ u start = t - u
-
-mul-lines : tie.Need-mul-lines Inv-loop μ-loop
-mul-lines c = omega (arith, product-small (c .args .m) (c .args .m) 4 4 (c .pre .1 .0) (c .pre .1 .0))
-
-subset-count-requires : tie.Need-subset-count-requires Inv-loop μ-loop
+subset-count-requires : tie.Need-subset-count-requires
 subset-count-requires c κs = search needs
 
-loop-holds : tie.Need-loop-holds Inv-loop μ-loop
-loop-holds c = (omega arith, from-first _ _)
+fits : (c : tie.After-subset-count) → StartSum (c .before .args .n) (c .before .args .m) (c .subset-count .result) (c .before .args .t)
+fits c = start-sum _ _ _ _ (c .before .pre .0) (c .before .pre .1 .0) (c .before .pre .1 .1) (c .subset-count .ensures .0)
 
-mul-start : tie.Need-mul-start Inv-loop μ-loop
-mul-start c = omega (arith, ltb-true)
+mul-product : tie.Need-mul-product
+mul-product c = omega (arith, fits c)
 
-array-read-start : tie.Need-array-read-start Inv-loop μ-loop
-array-read-start c = omega (arith, ltb-true)
+mul-lines : tie.Need-mul-lines
+mul-lines c = omega (arith, fits c)
 
-mul-start-2 : tie.Need-mul-start-2 Inv-loop μ-loop
-mul-start-2 c = omega (arith, ltb-true)
+mul-result : tie.Need-mul-result
+mul-result c = search needs
 
-array-read-start-2 : tie.Need-array-read-start-2 Inv-loop μ-loop
-array-read-start-2 c = omega (arith, ltb-true)
+array-read-result : tie.Need-array-read-result
+array-read-result c = search needs
 
-mul-start-3 : tie.Need-mul-start-3 Inv-loop μ-loop
-mul-start-3 c =
-    let a = c .before .before .before .args in
-    let s = c .before .before .subset-count in
-    omega (arith, table-fits (a .n) (a .m) (c .before .loop .u) (omega arith) (omega arith) (omega (arith, ltb-true)), table-with (a .n) (a .m) (s .result) (c .before .loop .u) (s .ensures .0))
+mul-result-2 : tie.Need-mul-result-2
+mul-result-2 c = search needs
 
-add-start : tie.Need-add-start Inv-loop μ-loop
-add-start c =
-    let a = c .before .before .before .args in
-    let s = c .before .before .subset-count in
-    omega (arith, table-fits (a .n) (a .m) (c .before .loop .u) (omega arith) (omega arith) (omega (arith, ltb-true)), table-with (a .n) (a .m) (s .result) (c .before .loop .u) (s .ensures .0))
+array-read-result-2 : tie.Need-array-read-result-2
+array-read-result-2 c = search needs
 
-add-u : tie.Need-add-u Inv-loop μ-loop
-add-u c = omega (arith, ltb-true)
+mul-result-3 : tie.Need-mul-result-3
+mul-result-3 c = omega (arith, fits c)
 
-loop-less : tie.Need-loop-less Inv-loop μ-loop
-loop-less c = omega (arith, ltb-true)
+add-result : tie.Need-add-result
+add-result c = omega (arith, fits c)
 
-loop-again : tie.Need-loop-again Inv-loop μ-loop
-loop-again c =
-    let a = c .before .before .before .args in
-    let s = c .before .before .subset-count in
-    (omega (arith, ltb-true), rw add-one (omega (arith, from-next (a .n) (a .m) (c .before .loop .u), table-with (a .n) (a .m) (s .result) (c .before .loop .u) (s .ensures .0))))
+mul-result-4 : tie.Need-mul-result-4
+mul-result-4 c = search needs
 
-returns : tie.Need-returns Inv-loop μ-loop
-returns c = c .before .loop .inv .1 ∙ ap (from (c .before .before .before .args .n) (c .before .before .before .args .m)) (let q : c .before .loop .u ≡ c .before .before .before .args .t = omega (arith, ltb-false) in q)
+array-read-result-3 : tie.Need-array-read-result-3
+array-read-result-3 c = search needs
+
+mul-result-5 : tie.Need-mul-result-5
+mul-result-5 c = omega (arith, fits c)
+
+add-result-2 : tie.Need-add-result-2
+add-result-2 c = omega (arith, fits c)
+
+mul-result-6 : tie.Need-mul-result-6
+mul-result-6 c = search needs
+
+array-read-result-4 : tie.Need-array-read-result-4
+array-read-result-4 c = search needs
+
+mul-result-7 : tie.Need-mul-result-7
+mul-result-7 c = omega (arith, fits c)
+
+add-result-3 : tie.Need-add-result-3
+add-result-3 c = omega (arith, fits c)
+
+mul-result-8 : tie.Need-mul-result-8
+mul-result-8 c = search needs
+
+array-read-result-5 : tie.Need-array-read-result-5
+array-read-result-5 c = search needs
+
+mul-result-9 : tie.Need-mul-result-9
+mul-result-9 c = omega (arith, fits c)
+
+add-result-4 : tie.Need-add-result-4
+add-result-4 c = omega (arith, fits c)
+
+mul-result-10 : tie.Need-mul-result-10
+mul-result-10 c = search needs
+
+array-read-result-6 : tie.Need-array-read-result-6
+array-read-result-6 c = search needs
+
+mul-result-11 : tie.Need-mul-result-11
+mul-result-11 c = omega (arith, fits c)
+
+add-result-5 : tie.Need-add-result-5
+add-result-5 c = omega (arith, fits c)
+
+returns : tie.Need-returns
+returns c = fits c .is-start
 
 pub start-of-spec : {M : Type 1} → statement M
 start-of-spec =
     tie.close
     (tie.spec
-    Inv-loop
-    μ-loop
-    mul-lines
     subset-count-requires
-    loop-holds
-    mul-start
-    array-read-start
-    mul-start-2
-    array-read-start-2
-    mul-start-3
-    add-start
-    add-u
-    loop-less
-    loop-again
+    mul-product
+    mul-lines
+    mul-result
+    array-read-result
+    mul-result-2
+    array-read-result-2
+    mul-result-3
+    add-result
+    mul-result-4
+    array-read-result-3
+    mul-result-5
+    add-result-2
+    mul-result-6
+    array-read-result-4
+    mul-result-7
+    add-result-3
+    mul-result-8
+    array-read-result-5
+    mul-result-9
+    add-result-4
+    mul-result-10
+    array-read-result-6
+    mul-result-11
+    add-result-5
     returns)
