@@ -1,5 +1,4 @@
--- What the code of the orders cites: digits, the plan's tree walked by position, and what it answers at a position.
+-- What the code of the orders cites: digits, the plan's tree walked by position and the layout's tables.
 pub mod Digits
 pub mod Walk
-pub mod Entry
-pub mod Starts
+pub mod Layouts

@@ -5,12 +5,15 @@ ghost use Prim.Native.Nat.{_<_, _≤_};
 ghost use lib.ListN.{length, getD};
 ghost use Rattle.definitions.specs.declared.Order.the-variants.{Constant};
 ghost use Rattle.definitions.specs.Limits.{bidLimit, poolLimit};
+ghost use Rattle.definitions.specs.Answers.{none};
+ghost use Rattle.definitions.specs.Calls.{countsRefusal};
 ghost use Rattle.definitions.specs.Plan.{total};
 ghost use Rattle.plan.specs.Plan.{plan};
-ghost use Rattle.orders.specs.Entry.{planEntry};
+ghost use Rattle.orders.specs.Layouts.{IsLayout};
+pub use crate::layout::columns_of;
 use crate::layout::numbered_order;
-use crate::layout::start_of;
-use crate::names::Family;
+pub use crate::layout::starts_of;
+pub use crate::names::Family;
 use crate::sets::subset_count;
 use crate::work::work_length;
 use crate::work::work_order;
@@ -39,21 +42,26 @@ fn length_within(n: usize, m: usize) -> usize
         + (8 + 11 * m + 2 * lines + sets * (7 + 6 * lines))
 }
 
-// The plan's order at a position before its end: the work's, then 0 to each scratch cell that has a name.
-fn order_within(n: usize, m: usize, x: usize) -> Order
-    requires { ⌜ n ≤ bidLimit ⌝ }
-    requires { ⌜ m ≤ poolLimit ⌝ }
-    requires { ⌜ 0 < m ⌝ }
-    requires { ⌜ x < length (plan n m) ⌝ }
-    ensures { λ o. ⌜ o ≡ getD (plan n m) x (Constant 0 0) ⌝ }
+// The plan's order at a position before its end, by a layout made before: the work's, then 0 to each scratch cell that has a name.
+pub fn order_in(
+    n: usize,
+    m: usize,
+    starts: &[usize; Family::COUNT],
+    columns: &[usize; Family::COUNT],
+    at: usize,
+) -> Order
+    requires { ⌜ countsRefusal n m ≡ none ⌝ }
+    requires { ⌜ IsLayout n m (now starts) (now columns) ⌝ }
+    requires { ⌜ at < length (plan n m) ⌝ }
+    ensures { λ o. ⌜ o ≡ getD (plan n m) at (Constant 0 0) ⌝ }
 {
     let work = work_length(n, m);
-    if x < work {
-        let o = work_order(n, m, x);
-        return numbered_order(n, m, o);
+    if at < work {
+        let o = work_order(n, m, at);
+        return numbered_order(n, m, starts, columns, o);
     }
     Order::Constant {
-        d: start_of(n, m, Family::TEMPORARIES) + (x - work),
+        d: starts[Family::TEMPORARIES] + (at - work),
         k: 0,
     }
 }
@@ -66,20 +74,4 @@ pub fn plan_length(n: usize, m: usize) -> usize
         return 0;
     }
     length_within(n, m)
-}
-
-// What the plan has at a position.
-pub enum Entry {
-    Order(Order),
-    Nothing,
-}
-
-// The plan's order at a position; nothing for refused counts and from the end on.
-pub fn order_at(n: usize, m: usize, at: usize) -> Entry
-    ensures { λ r. ⌜ r ≡ planEntry plan n m at ⌝ }
-{
-    if at < plan_length(n, m) {
-        return Entry::Order(order_within(n, m, at));
-    }
-    Entry::Nothing
 }

@@ -1,37 +1,46 @@
--- `cell_of` meets its contract: the cell lies in its family's table.
+-- `cell_of` meets its contract: the cell is the name's, and lies on the sheet.
 use native.Mathlib.Omega.{arith}
-use Rattle.orders.specs.Walk.{cell-within, cell-is}
+use Rattle.orders.specs.Layouts.{CellBy, cell-by}
 use borrow.Author.Needs.{needs}
 use Rattle.orders.proofs.layout.cell_of.Statement.{statement}
 use Rattle.orders.proofs.layout.cell_of.Tie as tie
 
-columns-of-requires : tie.Need-columns-of-requires
-columns-of-requires c κs = search needs
-
-start-of-requires : tie.Need-start-of-requires
-start-of-requires c κs = search needs
-
 mul-result : tie.Need-mul-result
-mul-result c =
-    let a = c .before .before .args in
-    omega (arith, cell-within (a .n) (a .m) (a .c .0) (a .c .1) (a .c .2) (c .start-of .result) (c .before .columns-of .result) (omega arith) (omega arith) (c .before .before .pre .1 .1) (c .start-of .ensures) (c .before .columns-of .ensures))
+mul-result c = search needs
+
+element-copy-out-result : tie.Need-element-copy-out-result
+element-copy-out-result c = search needs
+
+mul-result-2 : tie.Need-mul-result-2
+mul-result-2 c = search needs
+
+element-copy-out-result-2 : tie.Need-element-copy-out-result-2
+element-copy-out-result-2 c = search needs
+
+cell : (c : tie.After-result2) → let a = c .before .before .args in CellBy (a .n) (a .m) (a .c .0) (a .c .1) (a .c .2) (a .starts .now) (a .columns .now)
+cell c = let p = c .before .before .pre in cell-by _ _ _ _ _ _ _ (p .0) (p .1 .0) (p .1 .1 .0) (p .1 .1 .1)
+
+mul-result-3 : tie.Need-mul-result-3
+mul-result-3 c = omega (arith, cell c .on-sheet)
 
 add-result : tie.Need-add-result
-add-result c =
-    let a = c .before .before .args in
-    omega (arith, cell-within (a .n) (a .m) (a .c .0) (a .c .1) (a .c .2) (c .start-of .result) (c .before .columns-of .result) (omega arith) (omega arith) (c .before .before .pre .1 .1) (c .start-of .ensures) (c .before .columns-of .ensures))
+add-result c = omega (arith, cell c .on-sheet)
 
 add-result-2 : tie.Need-add-result-2
-add-result-2 c =
-    let a = c .before .before .args in
-    omega (arith, cell-within (a .n) (a .m) (a .c .0) (a .c .1) (a .c .2) (c .start-of .result) (c .before .columns-of .result) (omega arith) (omega arith) (c .before .before .pre .1 .1) (c .start-of .ensures) (c .before .columns-of .ensures))
+add-result-2 c = omega (arith, cell c .on-sheet)
 
 returns : tie.Need-returns
-returns c =
-    let a = c .before .before .args in
-    cell-is (a .n) (a .m) (a .c .0) (a .c .1) (a .c .2) (c .start-of .result) (c .before .columns-of .result) (c .start-of .ensures) (c .before .columns-of .ensures)
+returns c = cell c .is-cell
 
 pub cell-of-spec : {M : Type 1} → statement M
 cell-of-spec =
     tie.close
-    (tie.spec columns-of-requires start-of-requires mul-result add-result add-result-2 returns)
+    (tie.spec
+    mul-result
+    element-copy-out-result
+    mul-result-2
+    element-copy-out-result-2
+    mul-result-3
+    add-result
+    add-result-2
+    returns)

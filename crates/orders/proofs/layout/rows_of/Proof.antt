@@ -1,0 +1,21 @@
+-- `rows_of` meets its contract: the table is that of the layout, its products named.
+use mathlib.Core.Path.{ap}
+use Prim.Native.Nat.{ℕ, _*_}
+use native.Mathlib.Omega.{arith}
+use borrow.Author.Needs.{needs}
+use Rattle.plan.specs.Names.{rowTable}
+use Rattle.orders.specs.Walk.{product-small}
+use Rattle.orders.proofs.layout.rows_of.Statement.{statement}
+use Rattle.orders.proofs.layout.rows_of.Tie as tie
+
+mul-lines : tie.Need-mul-lines
+mul-lines c = omega (arith, product-small (c .args .m) (c .args .m) 4 4 (c .pre) (c .pre))
+
+subset-count-requires : tie.Need-subset-count-requires
+subset-count-requires c κs = search needs
+
+returns : tie.Need-returns
+returns c = let a = c .before .args in ap (λ (sets : ℕ). rowTable (a .n) (a .m) (a .m * a .m) sets) (c .subset-count .ensures .0)
+
+pub rows-of-spec : {M : Type 1} → statement M
+rows-of-spec = tie.close (tie.spec mul-lines subset-count-requires returns)

@@ -1,0 +1,64 @@
+-- The layout as the code's two tables have it: where each family of cells begins, and how many columns it has.
+use mathlib.Core.Path.{_≡_, refl, sym, ap, _∙_}
+use mathlib.Core.List.{List}
+use Prim.Native.Nat.{ℕ, suc, _+_, _*_, _^_, _≤_, _<_}
+use native.Mathlib.Omega.{arith}
+use native.Mathlib.Nat.{eq-or-lt-of-le}
+use native.Mathlib.Numerals.{add-one}
+use mathlib.Core.Logic.{_⊎_, inl, inr}
+use lib.ListN.{length, getD, set}
+use lib.Seq.{getD-set-same, getD-set-other}
+use Rattle.definitions.specs.Arithmetic.{sumTo}
+use Rattle.definitions.specs.Limits.{bidLimit, poolLimit, cellCount}
+use Rattle.plan.specs.Orders.{at}
+use Rattle.plan.specs.Names.{familyCount, rowTable, columnTable, columnsOf}
+use Rattle.plan.specs.Plan.{from, cellOf}
+use Rattle.plan.specs.Proper.{Valid}
+use Rattle.orders.specs.Walk.{from-next, from-small, cell-within, cell-is}
+
+-- the first k entries are where the first k families begin
+abbrev pub StartsTo : (n m k : ℕ) → List ℕ → Type 0
+StartsTo n m k starts = (t : ℕ) → t < k → getD starts t 0 ≡ from n m t
+
+abbrev pub AreStarts : (n m : ℕ) → List ℕ → Type 0
+AreStarts n m starts = StartsTo n m familyCount starts
+
+pub record IsLayout (n m : ℕ) (starts columns : List ℕ) : Type 0 where
+  pub begin : AreStarts n m starts
+  pub columns-are : columns ≡ columnTable n m
+
+-- a name's cell by the two tables, and that it is on the sheet
+pub record CellBy (n m t i j : ℕ) (starts columns : List ℕ) : Type 0 where
+  pub is-cell : getD starts t 0 + (i * getD columns t 0 + j) ≡ cellOf n m (at t i j)
+  pub on-sheet : getD starts t 0 + (i * getD columns t 0 + j) < cellCount
+
+pub cell-by : (n m t i j : ℕ) (starts columns : List ℕ) → n ≤ bidLimit → m ≤ poolLimit → IsLayout n m starts columns → Valid n m (at t i j) → CellBy n m t i j starts columns
+cell-by n m t i j starts columns h k layout v =
+    let begin : getD starts t 0 ≡ from n m t = layout .begin t (v .0) in
+    let width : getD columns t 0 ≡ columnsOf n m t = ap (λ (l : List ℕ). getD l t 0) (layout .columns-are) in
+    record { is-cell = cell-is n m t i j _ _ begin width; on-sheet = cell-within n m t i j _ _ h k v begin width }
+
+-- the first family begins at cell 0
+pub first-start : (n m : ℕ) → 0 ≡ from n m 0
+unfolding from sumTo
+first-start n m = refl
+
+-- one more entry
+pub one-more-start : (n m k start : ℕ) (starts : List ℕ) → StartsTo n m k starts → start ≡ from n m k → k < length starts → StartsTo n m (k + 1) (set starts k start)
+one-more-start n m k start starts h e l t u = go (eq-or-lt-of-le u)
+  where
+    go : (suc t ≡ k + 1) ⊎ (suc t < k + 1) → getD (set starts k start) t 0 ≡ from n m t
+    go (inl q) =
+        let same : t ≡ k = omega arith in
+        rw (same, getD-set-same starts k start 0 l) e
+    go (inr r) = getD-set-other starts k t start 0 (λ q. absurd (omega arith)) ∙ h t (omega arith)
+
+-- where the next family begins, from the tables of rows and columns
+pub next-start : (n m k start : ℕ) (rows columns : List ℕ) → rows ≡ rowTable n m (m * m) (2 ^ m) → columns ≡ columnTable n m → start ≡ from n m k
+    → start + getD rows k 0 * getD columns k 0 ≡ from n m (k + 1)
+next-start n m k start rows columns e f g = rw (e, f, g) (sym (ap (from n m) (add-one k) ∙ from-next n m k))
+
+-- both are on the sheet
+pub next-on-sheet : (n m k start : ℕ) (rows columns : List ℕ) → rows ≡ rowTable n m (m * m) (2 ^ m) → columns ≡ columnTable n m → start ≡ from n m k → n ≤ bidLimit → m ≤ poolLimit
+    → k < familyCount → start + getD rows k 0 * getD columns k 0 ≤ cellCount
+next-on-sheet n m k start rows columns e f g h j l = omega (arith, next-start n m k start rows columns e f g, from-small n m (k + 1) h j (omega arith))
