@@ -44,9 +44,8 @@ def listed(n, m, bids, capacities, output):
     return found + solver.faults(n, m, bids, capacities, accepted, flows)
 
 
-def check(program, data):
+def faults(data, output):
     """The faults of settle's output for one text."""
-    output = ran(program, data)
     expected = text.read(data)
     if expected == "unreadable":
         return [] if output == "unreadable\n" else [f"{output!r} for an unreadable text"]
@@ -78,7 +77,7 @@ def main():
     draw = random.Random(int(sys.argv[3]) if len(sys.argv) > 3 else 1)
     tried = 0
     for data in texts(draw, count):
-        found = check(program, data)
+        found = faults(data, ran(program, data))
         assert not found, (data[:2000], found)
         tried += 1
     print(f"{tried} texts: settle answers as the solver and the reader written apart")

@@ -8,13 +8,16 @@ import sys
 import orders
 
 
-def expected(data):
+def expected(data, first=b""):
+    """What the runner answers and leaves on an empty sheet; with first, on the sheet that those bytes left."""
+    sheet = orders.run(orders.orders(first), [0] * orders.CELLS)
     try:
         found = orders.orders(data)
+        answer = f"orders {len(found)}\n"
     except orders.Refused as refusal:
-        return "refused %d %d\n" % refusal.args
-    sheet = orders.run(found, [0] * orders.CELLS)
-    return f"orders {len(found)}\n" + "".join(f"cell {c} {v}\n" for c, v in enumerate(sheet) if v)
+        found = []
+        answer = "refused %d %d\n" % refusal.args
+    return answer + "".join(f"cell {c} {v}\n" for c, v in enumerate(orders.run(found, sheet)) if v)
 
 
 def order(draw):
