@@ -1,12 +1,13 @@
--- `read_text` is safe and ends. The measure is the number of turns that are left, and nothing has to hold from turn to turn.
-use Prim.{Unit, tt}
+-- `read_text` meets its contract. The invariant: the reader and the numbers are those of the pieces so far, one after another.
+-- The measure is the number of turns that are left.
 use native.Mathlib.Omega.{arith}
 use borrow.Author.Needs.{needs}
+use Rattle.settle.specs.Whole.{SoFar, nothing-read, piece-read, text-ended}
 use Rattle.settle.proofs.read_text.Statement.{statement}
 use Rattle.settle.proofs.read_text.Tie as tie
 
 abbrev Inv-loop : tie.InvT-loop
-Inv-loop numbers₀ reader₀ turns₀ numbers reader turns = Unit {0}
+Inv-loop numbers₀ reader₀ turns₀ numbers reader turns = SoFar numbers₀ reader numbers
 
 abbrev μ-loop : tie.MeasureT-loop
 μ-loop numbers₀ reader₀ turns₀ numbers reader turns = turns
@@ -15,7 +16,7 @@ start-requires : tie.Need-start-requires Inv-loop μ-loop
 start-requires c κs = search needs
 
 loop-holds : tie.Need-loop-holds Inv-loop μ-loop
-loop-holds c = tt
+loop-holds c = nothing-read _ _ (c .start .ensures)
 
 buffer-requires : tie.Need-buffer-requires Inv-loop μ-loop
 buffer-requires c κs = search needs
@@ -26,20 +27,11 @@ slice-aggregate-read c = search needs
 read-requires : tie.Need-read-requires Inv-loop μ-loop
 read-requires c κs = search needs
 
-slice-aggregate-count : tie.Need-slice-aggregate-count Inv-loop μ-loop
-slice-aggregate-count c = search needs
+slice-aggregate-feed-piece : tie.Need-slice-aggregate-feed-piece Inv-loop μ-loop
+slice-aggregate-feed-piece c = search needs
 
-count-requires : tie.Need-count-requires Inv-loop μ-loop
-count-requires c κs = search needs
-
-array-share-prefix-piece : tie.Need-array-share-prefix-piece Inv-loop μ-loop
-array-share-prefix-piece c = search needs
-
-slice-aggregate-feed : tie.Need-slice-aggregate-feed Inv-loop μ-loop
-slice-aggregate-feed c = search needs
-
-feed-requires : tie.Need-feed-requires Inv-loop μ-loop
-feed-requires c κs = search needs
+feed-piece-requires : tie.Need-feed-piece-requires Inv-loop μ-loop
+feed-piece-requires c κs = search needs
 
 sub-turns : tie.Need-sub-turns Inv-loop μ-loop
 sub-turns c = omega arith
@@ -48,13 +40,17 @@ loop-less : tie.Need-loop-less Inv-loop μ-loop
 loop-less c = omega arith
 
 loop-again : tie.Need-loop-again Inv-loop μ-loop
-loop-again c = tt
+loop-again c =
+    let l = c .before .before .before .before .before .before .before .before .before .loop in
+    piece-read _ (l .reader) _ (l .numbers) _ _ (l .inv) (c .feed-piece .ensures .0) (c .feed-piece .ensures .1)
 
 finish-requires : tie.Need-finish-requires Inv-loop μ-loop
 finish-requires c κs = search needs
 
 returns : tie.Need-returns Inv-loop μ-loop
-returns c = search needs
+returns c =
+    let l = c .before .before .before .loop in
+    text-ended _ (l .reader) _ (l .numbers) _ (l .inv) (c .finish .ensures .0) (c .finish .ensures .1)
 
 pub read-text-spec : {M : Type 1} → statement M
 read-text-spec =
@@ -67,11 +63,8 @@ read-text-spec =
     buffer-requires
     slice-aggregate-read
     read-requires
-    slice-aggregate-count
-    count-requires
-    array-share-prefix-piece
-    slice-aggregate-feed
-    feed-requires
+    slice-aggregate-feed-piece
+    feed-piece-requires
     sub-turns
     loop-less
     loop-again

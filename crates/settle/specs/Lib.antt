@@ -1,0 +1,2 @@
+-- What settle reads and what it is to print.
+pub mod Whole
