@@ -1,8 +1,9 @@
 """Times one clearing of a book of 64 bids and 4 pools: python3 tests/speed.py SETTLE DUMP SPEED
 
-SETTLE is the program (its time is that of 200 runs less that of 200 runs of an empty book), DUMP and SPEED the programs of tests/dump.c and
+SETTLE is the program (its time is the median of 200 runs less that of 200 runs on an empty book, by turns), DUMP and SPEED the programs of tests/dump.c and
 tests/speed.c: a plain C loop that runs the same plan already decoded, and a plain C greedy by augmenting paths."""
 import random
+import statistics
 import subprocess
 import sys
 import tempfile
@@ -11,10 +12,9 @@ import time
 import books
 
 
-def seconds(program, data, runs):
+def seconds(program, data):
     start = time.perf_counter()
-    for _ in range(runs):
-        subprocess.run([program], input=data, stdout=subprocess.DEVNULL, check=True)
+    subprocess.run([program], input=data, stdout=subprocess.DEVNULL, check=True)
     return time.perf_counter() - start
 
 
@@ -24,8 +24,8 @@ def main():
     with tempfile.NamedTemporaryFile() as plan:
         subprocess.run([dump, "64", "4"], stdout=plan, check=True)
         orders, decoded, paths, _, _ = subprocess.run([speed, plan.name], input=book, stdout=subprocess.PIPE, check=True).stdout.split()
-    runs = 200
-    own = (seconds(settle, book, runs) - seconds(settle, b"0 1 0\n", runs)) / runs * 1e6
+    turns = [(seconds(settle, book), seconds(settle, b"0 1 0\n")) for _ in range(200)]
+    own = (statistics.median(full for full, _ in turns) - statistics.median(empty for _, empty in turns)) * 1e6
     decoded, paths = float(decoded), float(paths)
     print(f"one clearing, 64 bids, 4 pools, {int(orders):,} orders: settle {own:,.0f} us; the decoded plan in a C loop {decoded:,.0f} us "
           f"({own / decoded:.1f} times); a C greedy by augmenting paths {paths:,.0f} us")

@@ -25,7 +25,7 @@ AreStarts n m starts = StartsTo n m familyCount starts
 
 pub record IsLayout (n m : ℕ) (starts columns : List ℕ) : Type 0 where
   pub begin : AreStarts n m starts
-  pub columns-are : columns ≡ columnTable n m
+  pub columns-are : columns ≡ columnTable m
 
 -- a name's cell by the two tables, and that it is on the sheet
 pub record CellBy (n m t i j : ℕ) (starts columns : List ℕ) : Type 0 where
@@ -54,11 +54,11 @@ one-more-start n m k start starts h e l t u = go (eq-or-lt-of-le u)
     go (inr r) = getD-set-other starts k t start 0 (λ q. absurd (omega arith)) ∙ h t (omega arith)
 
 -- where the next family begins, from the tables of rows and columns
-pub next-start : (n m k start : ℕ) (rows columns : List ℕ) → rows ≡ rowTable n m (m * m) (2 ^ m) → columns ≡ columnTable n m → start ≡ from n m k
+pub next-start : (n m k start : ℕ) (rows columns : List ℕ) → rows ≡ rowTable n m (m * m) (2 ^ m) → columns ≡ columnTable m → start ≡ from n m k
     → start + getD rows k 0 * getD columns k 0 ≡ from n m (k + 1)
 next-start n m k start rows columns e f g = rw (e, f, g) (sym (ap (from n m) (add-one k) ∙ from-next n m k))
 
 -- both are on the sheet
-pub next-on-sheet : (n m k start : ℕ) (rows columns : List ℕ) → rows ≡ rowTable n m (m * m) (2 ^ m) → columns ≡ columnTable n m → start ≡ from n m k → n ≤ bidLimit → m ≤ poolLimit
+pub next-on-sheet : (n m k start : ℕ) (rows columns : List ℕ) → rows ≡ rowTable n m (m * m) (2 ^ m) → columns ≡ columnTable m → start ≡ from n m k → n ≤ bidLimit → m ≤ poolLimit
     → k < familyCount → start + getD rows k 0 * getD columns k 0 ≤ cellCount
 next-on-sheet n m k start rows columns e f g h j l = omega (arith, next-start n m k start rows columns e f g, from-small n m (k + 1) h j (omega arith))

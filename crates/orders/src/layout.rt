@@ -1,6 +1,6 @@
 // From names to cells.
 ghost use mathlib.Core.Path.{_≡_};
-ghost use Prim.Native.Nat.{ℕ, _*_, _^_, _≤_};
+ghost use Prim.Native.Nat.{_*_, _^_, _≤_};
 ghost use Rattle.definitions.specs.Limits.{bidLimit, poolLimit};
 ghost use Rattle.definitions.specs.Answers.{none};
 ghost use Rattle.definitions.specs.Calls.{countsRefusal};
@@ -19,7 +19,7 @@ use definitions::Order;
 
 // How many columns each family has, in the families' order.
 pub fn columns_of(m: usize) -> [usize; Family::COUNT]
-    ensures { λ r. ⌜ ((n : ℕ) → r ≡ columnTable n m) ⌝ }
+    ensures { λ r. ⌜ r ≡ columnTable m ⌝ }
 {
     [
         Limits::BID_NUMBERS, // bids

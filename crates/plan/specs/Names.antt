@@ -114,8 +114,8 @@ rowTable n m lines sets =
     ∷ n ∷ n ∷ n ∷ n ∷ n ∷ n ∷ n ∷ n ∷ m ∷ sets
     ∷ sets ∷ n ∷ n ∷ n ∷ n ∷ n ∷ m ∷ sets ∷ n ∷ m ∷ []
 
-abbrev pub columnTable : (n m : ℕ) → List ℕ
-columnTable n m =
+abbrev pub columnTable : (m : ℕ) → List ℕ
+columnTable m =
     bidNumbers ∷ m ∷ 1 ∷ 1 ∷ 2 ∷ 1 ∷ 1 ∷ 1 ∷ 1 ∷ 1
     ∷ 1 ∷ 1 ∷ 1 ∷ 1 ∷ 1 ∷ 1 ∷ m ∷ m ∷ 1 ∷ 1
     ∷ 1 ∷ m ∷ 1 ∷ m ∷ 1 ∷ 1 ∷ 1 ∷ 1 ∷ 1 ∷ 1 ∷ []
@@ -124,7 +124,7 @@ abbrev pub rowsOf : (n m t : ℕ) → ℕ
 rowsOf n m t = getD (rowTable n m (m * m) (2 ^ m)) t 0
 
 abbrev pub columnsOf : (n m t : ℕ) → ℕ
-columnsOf n m t = getD (columnTable n m) t 0
+columnsOf n m t = getD (columnTable m) t 0
 
 -- ---- inputs and results
 

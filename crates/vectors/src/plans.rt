@@ -56,8 +56,8 @@ fn show(name: &[u8], bytes: &[u8]) {
     show_after(name, b"", bytes);
 }
 
-// Sound plans: every kind, and the edges of numbers and cells.
-fn show_sound() {
+// Document 01's examples 8 to 10.
+fn show_examples() {
     show(b"no bytes:\n", b"");
     show(b"example 8:\n", b"\x00\x00\x85\xea\x02\x03\x01\x00\x00");
     show(
@@ -65,6 +65,10 @@ fn show_sound() {
         b"\x00\x00\x80\x80\x80\x80\x04\x04\x02\x00\x01",
     );
     show(b"example 10:\n", b"\x00\xac\x02\xfe\xff\xff\xff\x07");
+}
+
+// Sound plans: each kind.
+fn show_kinds() {
     show(b"sum:\n", b"\x00\x00\x05\x00\x01\x07\x01\x02\x00\x01");
     show(
         b"sum above p:\n",
@@ -90,6 +94,10 @@ fn show_sound() {
         b"equal:\n",
         b"\x00\x00\x05\x00\x01\x07\x05\x02\x00\x01\x05\x03\x01\x01",
     );
+}
+
+// Cells that coincide, and the last cell.
+fn show_edges() {
     show(
         b"one cell thrice:\n",
         b"\x00\x07\x09\x01\x07\x07\x07\x03\x07\x07\x07",
@@ -121,8 +129,8 @@ fn show_cut() {
     );
 }
 
-// A kind that is none, and numbers not in their shortest form or too great.
-fn show_malformed() {
+// A kind that is none, and numbers not in their shortest form.
+fn show_longer() {
     show(b"kind 6 alone:\n", b"\x06");
     show(b"kind 6 in a longer form:\n", b"\x86\x00");
     show(
@@ -138,6 +146,10 @@ fn show_malformed() {
         b"constant in a longer form:\n",
         b"\x00\x00\x05\x00\x00\x85\x80\x00",
     );
+}
+
+// Numbers too long or too great.
+fn show_beyond() {
     show(
         b"four bytes without a last group:\n",
         b"\x00\x00\x05\x00\x00\x80\x80\x80\x80",
@@ -202,9 +214,12 @@ fn show_unchanged() {
 }
 
 pub fn show_all() {
-    show_sound();
+    show_examples();
+    show_kinds();
+    show_edges();
     show_cut();
-    show_malformed();
+    show_longer();
+    show_beyond();
     show_first();
     show_unchanged();
 }

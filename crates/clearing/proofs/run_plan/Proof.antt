@@ -52,7 +52,7 @@ order-in-requires c κs =
     let start = inside .before .before .before .before .before .before in (
       start .pre .0,
       (
-        record { begin = inside .before .before .before .before .starts-of .ensures; columns-are = inside .before .before .before .columns-of .ensures (start .args .n) },
+        record { begin = inside .before .before .before .before .starts-of .ensures; columns-are = inside .before .before .before .columns-of .ensures },
         before-end inside,
       ),
     )

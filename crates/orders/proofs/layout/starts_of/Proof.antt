@@ -51,7 +51,7 @@ fits : (c : tie.In-loop Inv-loop μ-loop) → c .before .loop .start + getD (c .
 fits c =
     let start = c .before .before .before .before in
     let limits = counted (start .args .n) (start .args .m) (start .pre) in
-    next-on-sheet (start .args .n) (start .args .m) (c .before .loop .t) _ _ _ (c .before .before .before .rows-of .ensures) (c .before .before .columns-of .ensures (start .args .n))
+    next-on-sheet (start .args .n) (start .args .m) (c .before .loop .t) _ _ _ (c .before .before .before .rows-of .ensures) (c .before .before .columns-of .ensures)
     (c .before .loop .inv .1) (limits .bids) (limits .pools .most) (omega arith)
 
 mul-start-3 : tie.Need-mul-start-3 Inv-loop μ-loop
@@ -72,7 +72,7 @@ loop-again c =
     let loop = c .before .loop in
     let before-end : loop .t < length (loop .starts) = omega (arith, loop .inv .3) in (
       one-more-start (start .args .n) (start .args .m) (loop .t) (loop .start) (loop .starts) (loop .inv .0) (loop .inv .1) before-end,
-      next-start (start .args .n) (start .args .m) (loop .t) (loop .start) _ _ (c .before .before .before .rows-of .ensures) (c .before .before .columns-of .ensures (start .args .n)) (loop .inv .1),
+      next-start (start .args .n) (start .args .m) (loop .t) (loop .start) _ _ (c .before .before .before .rows-of .ensures) (c .before .before .columns-of .ensures) (loop .inv .1),
       omega arith,
       length-set (loop .starts) (loop .t) (loop .start) ∙ loop .inv .3,
     )

@@ -47,7 +47,7 @@ order-in-requires c κs =
     let judged = passed (then .before .before) in (
       counts-passed plan (p .n) (p .m) (p .at) judged,
       (
-        record { begin = c .before .before .before .starts-of .ensures; columns-are = c .before .before .columns-of .ensures (p .n) },
+        record { begin = c .before .before .before .starts-of .ensures; columns-are = c .before .before .columns-of .ensures },
         before-end plan (p .n) (p .m) (p .at) judged (before-total then),
       ),
     )
