@@ -9,7 +9,7 @@ use lib.Seq.{drop-drop, drop-append-seam}
 use borrow.Author.Tests.{lt-ltb, le-ltb}
 use Rattle.definitions.specs.declared.Order.{Order}
 use Rattle.definitions.specs.Answers.{none, refuse, isNone}
-use Rattle.definitions.specs.Machine.{WellFormed, AllWellFormed}
+use Rattle.definitions.specs.Machine.{AllWellFormed}
 use Rattle.definitions.specs.Bytes.{orderBytes, ordersBytes, Read, fault, found, orderAt, Parsed, noOrders, oneMore, continue, parseFrom, parse}
 use Rattle.laws.specs.Tests.{Lt?, less, more, lt?}
 use Rattle.codec.specs.Groups.{Bytes}

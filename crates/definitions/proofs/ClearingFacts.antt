@@ -5,7 +5,7 @@ use mathlib.Core.Bool.{true, false}
 use mathlib.Core.List.{List, [], _∷_}
 use native.Mathlib.Omega.{arith}
 use lib.ListN.{getD}
-use lib.IntN.{ℤ, pos, negℤ}
+use lib.IntN.{pos, negℤ}
 use Rattle.definitions.specs.Arithmetic.{sumTo, sumZ}
 use Rattle.definitions.specs.Book.{Book, book, size, capacity}
 use Rattle.definitions.specs.Clearing.{Clearing, Feasible, Best, Permitted, NoGreater, equal, less, sold, bought, inflow, outflow, welfare, before, used, missing, present, poolPrice, highest}

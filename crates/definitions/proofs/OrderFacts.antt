@@ -1,6 +1,6 @@
 -- The machine's orders and their bytes on single cases, by computation.
 use mathlib.Core.Path.{_≡_, refl}
-use mathlib.Core.List.{List, [], _∷_}
+use mathlib.Core.List.{[], _∷_}
 use lib.ListN.{replicate}
 use Rattle.definitions.specs.declared.Order.the-variants.{Constant, Sum, Difference, Product, Less, Equal}
 use Rattle.definitions.specs.Machine.{times, lessThan, stepOf}

@@ -3,10 +3,10 @@ use Prim.Native.Nat.{ℕ}
 use mathlib.Core.Path.{_≡_, refl}
 use mathlib.Core.List.{List, [], _∷_}
 use Rattle.definitions.specs.declared.Order.{Order}
-use Rattle.definitions.specs.declared.Order.the-variants.{Constant, Sum, Less}
+use Rattle.definitions.specs.declared.Order.the-variants.{Constant, Sum}
 use Rattle.definitions.specs.Answers.{refuse}
 use Rattle.definitions.specs.Bytes.{groups, numberBytes, orderBytes, ordersBytes}
-use Rattle.definitions.specs.Plan.{order, ended, refused, askRefusal, asked, collected, total, fitting, writeRefusal, ordersWritten, bytesWritten, writtenCounts, writeCounts, writeSlice, lowestFirst, totalRefusal, totalSlice, bytesRefusal, bytesSlice, countsSlice}
+use Rattle.definitions.specs.Plan.{order, ended, refused, askRefusal, asked, collected, fitting, writeRefusal, ordersWritten, bytesWritten, writtenCounts, writeCounts, writeSlice, lowestFirst, totalRefusal, totalSlice, bytesRefusal}
 
 -- orders of 8, 4 and 3 bytes
 three : (n m : ℕ) → List Order

@@ -1,10 +1,10 @@
 -- The edges of the limits, the order of refusals and their places, and residues, by computation.
-use Prim.Native.Nat.{ℕ, _*_}
+use Prim.Native.Nat.{ℕ}
 use mathlib.Core.Path.{_≡_, refl}
-use mathlib.Core.List.{List, [], _∷_, _++_}
-use lib.ListN.{length, getD, replicate}
-use lib.IntN.{ℤ, pos, negsuc, negℤ}
-use Rattle.definitions.specs.Limits.{cellCount, bidNumbers}
+use mathlib.Core.List.{List, [], _∷_}
+use lib.ListN.{replicate}
+use lib.IntN.{ℤ, pos, negℤ}
+use Rattle.definitions.specs.Limits.{cellCount}
 use Rattle.definitions.specs.Arithmetic.{reading, residue}
 use Rattle.definitions.specs.Book.{book}
 use Rattle.definitions.specs.Sheet.{sealedSheet, amountCell, flowCell, priceCell, presenceCell, firstScratch}

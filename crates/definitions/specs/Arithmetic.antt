@@ -1,6 +1,6 @@
 -- Sums over an index, tests on whole numbers, and whole numbers as residues.
 use Prim.Native.Nat.{ℕ, zero, suc, _+_, _-_}
-use mathlib.Core.Bool.{Bool, true, false, cond, _&&_}
+use mathlib.Core.Bool.{Bool, false, cond, _&&_}
 use lib.Dec.{ltb, eqb}
 use lib.IntN.{ℤ, pos, negsuc, _+ℤ_, _-ℤ_}
 use lib.Signed.{leZ}

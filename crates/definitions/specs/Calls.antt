@@ -2,7 +2,7 @@
 -- "Numbers 1, 2, 3 come first, lowest first, then 13, 14, 15 in this order, then bids one by one (4, 5, 6), then capacities .. Then orders".
 use Prim.Native.Nat.{ℕ, zero, suc, _+_, _*_}
 use mathlib.Core.Path.{_≡_}
-use mathlib.Core.Bool.{Bool, true, false, cond, _&&_, _||_}
+use mathlib.Core.Bool.{Bool, cond, _&&_, _||_}
 use mathlib.Core.List.{List, map}
 use lib.Dec.{ltb, eqb}
 use lib.ListN.{length, take, drop}

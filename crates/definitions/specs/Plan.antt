@@ -1,7 +1,7 @@
 -- The plan as its callers meet it: asking at a position, the total, the writer and the two forms for the C host (document 01, 'The plan').
 -- Which orders the plan lists is left open: `plan` is the list of orders for each n and m.
 use Prim.Native.Nat.{ℕ, zero, suc, _+_, _-_, _/_, _%_}
-use mathlib.Core.Bool.{Bool, true, false, cond}
+use mathlib.Core.Bool.{cond}
 use mathlib.Core.List.{List, [], _∷_, _++_}
 use lib.Dec.{ltb, leb, eqb}
 use lib.ListN.{length, getD, take, drop}

@@ -1,5 +1,5 @@
 -- "Never rerouting gas already placed", of 'Costly mistakes': the first sale leaves the way by pool 2 to the second (`rerouted`).
-use Prim.Native.Nat.{ℕ, _/_, _%_}
+use Prim.Native.Nat.{_/_, _%_}
 use mathlib.Core.Path.{_≡_, refl}
 use mathlib.Core.List.{[], _∷_}
 use native.Mathlib.Omega.{arith}

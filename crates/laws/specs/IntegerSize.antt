@@ -1,13 +1,12 @@
 -- The size of a whole number: of a sum, a difference, a product; and that a number of small size fits.
 use Prim.Native.Nat.{ℕ, zero, suc, _+_, _-_, _*_, _<_, _≤_, _^_}
-use mathlib.Core.Path.{_≡_, refl, sym, ap, _∙_, subst}
+use mathlib.Core.Path.{_≡_, refl, sym, subst}
 use mathlib.Core.Bool.{Bool, true, false, cond}
 use native.Mathlib.Omega.{arith}
 use native.Mathlib.Nat.{mul-le-mul-left, mul-le-mul-right, le-trans}
 use lib.Dec.{ltb}
-use lib.IntN.{ℤ, pos, negsuc, negℤ, natAbs, _+ℤ_, _-ℤ_, _*ℤ_, subℕ}
-use lib.Signed.{mag}
-use borrow.Author.Tests.{ltb-true, ltb-false}
+use lib.IntN.{ℤ, pos, negsuc, negℤ, natAbs, _+ℤ_, _*ℤ_, subℕ}
+use borrow.Author.Tests.{ltb-true}
 use mir.Syntax.{Width}
 use mir.Val.{SFits, hbits}
 

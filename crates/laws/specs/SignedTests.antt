@@ -5,7 +5,7 @@ use mathlib.Core.Bool.{Bool, true, false, true≢false}
 use lib.IntN.{ℤ, pos, negsuc, natAbs}
 use lib.Signed.{ltZ, leZ, nonNeg, mag}
 use Prim.Native.Nat.{_<_, _^_}
-use lib.Dec.{T, ltb, eqb}
+use lib.Dec.{T, ltb}
 use Rattle.definitions.specs.Arithmetic.{eqZ}
 use borrow.Author.Tests.{ltb-true, ltb-false, le-leb, lt-leb, eqb-true, eq-eqb}
 use mir.Syntax.{Width}

@@ -1,10 +1,9 @@
 -- A loop that writes a list into another, element by element (`paste` of lib.Seq says what it has written after n turns).
 use Prim.Native.Nat.{ℕ, _+_, _<_}
 use mathlib.Core.Path.{_≡_, sym, ap, _∙_}
-use mathlib.Core.List.{List, _++_, append-assoc}
-use native.Mathlib.Omega.{arith}
+use mathlib.Core.List.{List, _++_}
 use native.Mathlib.Numerals.{add-one}
-use lib.ListN.{length, getD, take, drop, set, length-append}
+use lib.ListN.{length, getD, take, drop, set}
 use lib.Seq.{paste, paste-suc, take-length, take-at, drop-append-add}
 
 -- d with its elements from index at on replaced by those of s

@@ -1,7 +1,7 @@
 -- The plan's blocks of orders, from the counts n and m only.
 use mathlib.Core.Bool.{Bool, true, false, cond}
 use mathlib.Core.List.{List, [], _∷_, _++_}
-use Prim.Native.Nat.{ℕ, suc, _+_, _%_, _/_, _^_}
+use Prim.Native.Nat.{ℕ, suc, _%_, _/_, _^_}
 use lib.Dec.{ltb}
 use Rattle.definitions.specs.Limits.{priceLimit, greatestPositive}
 use Rattle.plan.specs.Orders.{OrderOn, constant, sum, difference, product, less, equal, Name, at}

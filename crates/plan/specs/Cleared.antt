@@ -3,7 +3,7 @@ use mathlib.Core.Path.{_≡_, refl, ap, subst, _∙_}
 use mathlib.Core.Logic.{_≢_}
 use mathlib.Core.Bool.{Bool, true}
 use mathlib.Core.List.{List, _++_, map, map-append}
-use Prim.Native.Nat.{ℕ, zero, suc, _+_, _-_, _*_, _≤_, _<_}
+use Prim.Native.Nat.{ℕ, zero, suc, _+_, _*_, _≤_, _<_}
 use native.Mathlib.Nat.{le-refl}
 use native.Mathlib.Omega.{arith}
 use lib.Dec.{lit<}
@@ -20,7 +20,7 @@ use Rattle.laws.specs.Tests.{Lt?, less, more, lt?}
 use Rattle.laws.specs.AcceptedBook.{Sound}
 use Rattle.plan.specs.Orders.{OrderOn, constant, operate, target, orderOf, renamed, Name, at, run}
 use Rattle.plan.specs.Loops.{loop, listed}
-use Rattle.plan.specs.Names.{bids, amounts, flows, prices, temporaries, familyCount, rowsOf, columnsOf}
+use Rattle.plan.specs.Names.{amounts, flows, prices, temporaries, familyCount, rowsOf, columnsOf}
 use Rattle.plan.specs.Layout.{address-below, address-apart}
 use Rattle.plan.specs.Simulation.{run-on, run-length, run-other, AllNamed, run-agrees}
 use Rattle.plan.specs.Tree.{flat, all-imply, every-flat}

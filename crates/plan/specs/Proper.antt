@@ -2,7 +2,7 @@
 use mathlib.Core.Path.{refl}
 use mathlib.Core.Bool.{Bool, true, false, cond}
 use mathlib.Core.List.{[], _∷_}
-use Prim.Native.Nat.{ℕ, _-_, _*_, _%_, _/_, _^_, _≤_, _<_}
+use Prim.Native.Nat.{ℕ, _*_, _%_, _/_, _^_, _≤_, _<_}
 use native.Mathlib.Omega.{arith}
 use lib.Dec.{ltb, lit<}
 use Rattle.definitions.specs.Limits.{modulus}

@@ -8,7 +8,7 @@ use lib.IntN.{ℤ, pos, negsuc, natAbs, _+ℤ_}
 use lib.Signed.{ltZ}
 use borrow.Author.Tests.{lt-ltb, le-ltb}
 use Rattle.definitions.specs.Limits.{modulus, greatestPositive, priceLimit}
-use Rattle.definitions.specs.Arithmetic.{on, reading, residue}
+use Rattle.definitions.specs.Arithmetic.{on, residue}
 use Rattle.definitions.specs.Machine.{plus, minus, times, lessThan}
 use Rattle.laws.specs.Tests.{Lt?, less, more, lt?}
 use Rattle.residues.specs.Residues.{reading-residue}

@@ -1,6 +1,6 @@
 -- Calls of the writer one after another, each from the position that the one before gave, with any slices of 8 bytes or more, give
 -- exactly the plan's bytes (`plan-sent`); the runner accepts these and runs the plan (`plan-run`).
-use Prim.Native.Nat.{ℕ, suc, _+_, _-_, _≤_, _<_}
+use Prim.Native.Nat.{ℕ, suc, _+_, _≤_, _<_}
 use mathlib.Core.Path.{_≡_, refl, sym, ap, ap₂, _∙_, subst}
 use mathlib.Core.Bool.{Bool}
 use mathlib.Core.List.{List, [], _∷_, _++_, append-nil, append-assoc}

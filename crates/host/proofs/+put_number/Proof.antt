@@ -1,5 +1,5 @@
 -- The lowest byte is stored, and the call for the others has one byte less: that is the measure, k.
-use Prim.Native.Nat.{ℕ, zero, suc, _+_, _-_, _/_, _%_, _<_}
+use Prim.Native.Nat.{ℕ, zero, suc, _-_, _/_, _%_, _<_}
 use mathlib.Core.Path.{_≡_, refl, sym, ap, _∙_}
 use mathlib.Core.List.{[], _∷_}
 use native.Mathlib.Omega.{arith}

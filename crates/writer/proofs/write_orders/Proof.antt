@@ -9,7 +9,6 @@ use denote.Enum.Declared.{tagOf}
 use types.Run.{OneOf}
 use lib.ListN.{length}
 use borrow.Author.Needs.{needs}
-use Rattle.definitions.specs.declared.Order.{Order}
 use Rattle.definitions.specs.Bytes.{orderBytes}
 use Rattle.definitions.specs.Answers.{none}
 use Rattle.definitions.specs.Calls.{countsRefusal}
