@@ -6,21 +6,22 @@ use native.Mathlib.Numerals.{add-one}
 use lib.ListN.{length, getD, take, drop, set}
 use lib.Seq.{paste, paste-suc, take-length, take-at, drop-append-add}
 
--- d with its elements from index at on replaced by those of s
-abbrev pub written : {A : Type 0} → List A → ℕ → List A → List A
-written d at s = take at d ++ s ++ drop (at + length s) d
+module _ {A : Type 0} where
+  -- d with its elements from index at on replaced by those of s
+  abbrev pub written : List A → ℕ → List A → List A
+  written d at s = take at d ++ s ++ drop (at + length s) d
 
--- one turn: d is what i turns wrote, v the next element
-pub one-more : (d₀ d : List ℕ) (at : ℕ) (s : List ℕ) (i v : ℕ) → d ≡ paste d₀ at s i → v ≡ getD s i 0 → at + i < length d₀ → i < length s → set d (at + i) v ≡ paste d₀ at s (i + 1)
-one-more d₀ d at s i v e q h k = ap (λ (l : List ℕ). set l (at + i) v) e ∙ ap (set (paste d₀ at s i) (at + i)) q ∙ paste-suc d₀ at s i 0 h k ∙ ap (paste d₀ at s) (sym (add-one i))
+  -- one turn: d is what i turns wrote, v the next element (z: what is read behind the last)
+  pub one-more : (z : A) (d₀ d : List A) (at : ℕ) (s : List A) (i : ℕ) (v : A) → d ≡ paste d₀ at s i → v ≡ getD s i z → at + i < length d₀ → i < length s → set d (at + i) v ≡ paste d₀ at s (i + 1)
+  one-more z d₀ d at s i v e q h k = ap (λ (l : List A). set l (at + i) v) e ∙ ap (set (paste d₀ at s i) (at + i)) q ∙ paste-suc d₀ at s i z h k ∙ ap (paste d₀ at s) (sym (add-one i))
 
--- the last turn's end
-pub all : (d₀ d : List ℕ) (at : ℕ) (s : List ℕ) (i : ℕ) → d ≡ paste d₀ at s i → i ≡ length s → d ≡ written d₀ at s
-all d₀ d at s i e q = e ∙ ap (paste d₀ at s) q ∙ ap (λ (l : List ℕ). take at d₀ ++ l ++ drop (at + length s) d₀) (take-length s)
+  -- the last turn's end
+  pub all : (d₀ d : List A) (at : ℕ) (s : List A) (i : ℕ) → d ≡ paste d₀ at s i → i ≡ length s → d ≡ written d₀ at s
+  all d₀ d at s i e q = e ∙ ap (paste d₀ at s) q ∙ ap (λ (l : List A). take at d₀ ++ l ++ drop (at + length s) d₀) (take-length s)
 
--- a write just behind a first part
-pub behind : (p r : List ℕ) (at : ℕ) (s : List ℕ) → length p ≡ at → written (p ++ r) at s ≡ p ++ s ++ drop (length s) r
-behind p r at s e =
-    ap (λ (l : List ℕ). l ++ s ++ drop (at + length s) (p ++ r)) (take-at p r at e)
-    ∙ ap (λ (n : ℕ). p ++ s ++ drop (n + length s) (p ++ r)) (sym e)
-    ∙ ap (λ (l : List ℕ). p ++ s ++ l) (drop-append-add p r (length s))
+  -- a write just behind a first part
+  pub behind : (p r : List A) (at : ℕ) (s : List A) → length p ≡ at → written (p ++ r) at s ≡ p ++ s ++ drop (length s) r
+  behind p r at s e =
+      ap (λ (l : List A). l ++ s ++ drop (at + length s) (p ++ r)) (take-at p r at e)
+      ∙ ap (λ (n : ℕ). p ++ s ++ drop (n + length s) (p ++ r)) (sym e)
+      ∙ ap (λ (l : List A). p ++ s ++ l) (drop-append-add p r (length s))

@@ -39,7 +39,7 @@ loop-again c =
     let a = c .before .before .before .args in (
       omega arith,
       length-set (l .out) (a .at + l .i) _ ∙ l .inv .1,
-      one-more (a .out .now) (l .out) (a .at) (a .word .now) (l .i) _ (l .inv .2) refl (omega arith) (c .before .loop-test .taken),
+      one-more 0 (a .out .now) (l .out) (a .at) (a .word .now) (l .i) _ (l .inv .2) refl (omega arith) (c .before .loop-test .taken),
     )
 
 add-result : tie.Need-add-result Inv-loop μ-loop

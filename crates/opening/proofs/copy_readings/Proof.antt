@@ -3,13 +3,15 @@ use Prim.Native.Nat.{_+_, _-_, _<_, _≤_}
 use mathlib.Core.Path.{_≡_, refl, sym, _∙_}
 use mathlib.Core.List.{List}
 use native.Mathlib.Omega.{arith}
-use lib.IntN.{ℤ}
+use native.Mathlib.Nat.{zero-add}
+use lib.IntN.{ℤ, pos}
 use lib.ListN.{length, length-set}
 use lib.Seq.{paste, paste-zero}
 use mir.Syntax.{w32}
 use borrow.Author.Needs.{scaled-fits}
 use Rattle.laws.specs.SignedTests.{back}
-use Rattle.opening.proofs.Readings.{readings, readings-length, reading-at, one-more, all}
+use Rattle.laws.specs.Write.{one-more, all}
+use Rattle.opening.proofs.Readings.{readings, readings-length, reading-at, written-over}
 use Rattle.opening.proofs.copy_readings.Statement.{statement}
 use Rattle.opening.proofs.copy_readings.Tie as tie
 
@@ -67,10 +69,10 @@ loop-again c =
     let h : l .i < length (a .out .now) = omega arith in (
       omega arith,
       length-set (l .out) (l .i) _ ∙ l .inv .1,
-      one-more (a .out .now) (l .out) (source s) (l .i) _ (l .inv .2)
+      rw (zero-add (l .i)) at (one-more (pos 0) (a .out .now) (l .out) 0 (source s) (l .i) _ (l .inv .2)
           (back w32 (c .reading .result) (c .reading .ok) ∙ c .reading .ensures ∙ sym (reading-at (a .sheet .now) (a .from) (length (a .out .now)) (l .i) h))
-          h
-          (rw (source-length s) h),
+          (omega arith)
+          (rw (source-length s) h)),
     )
 
 same-length : tie.Need-same-length Inv-loop μ-loop
@@ -80,7 +82,8 @@ returns : tie.Need-returns Inv-loop μ-loop
 returns c =
     let s = c .before .before .before in
     let l = c .before .loop in
-    all (s .args .out .now) (l .out) (source s) (l .i) (l .inv .2) (rw (source-length s) (omega arith)) (omega arith)
+    all (s .args .out .now) (l .out) 0 (source s) (l .i) (l .inv .2) (rw (source-length s) (omega arith))
+    ∙ written-over (s .args .out .now) (source s) (omega (arith, source-length s))
 
 pub copy-readings-spec : {M : Type 1} → statement M
 copy-readings-spec =

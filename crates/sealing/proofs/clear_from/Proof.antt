@@ -29,7 +29,7 @@ cleared : (s₀ s : List ℕ) (at c : ℕ) → at ≤ c → c < length s₀ → 
 cleared s₀ s at c h k e =
     let z : List ℕ = zeros s₀ at in
     ap (λ (i : ℕ). set s i 0) (let q : c ≡ at + (c - at) = omega arith in q)
-    ∙ one-more s₀ s at z (c - at) 0 e (sym (getD-replicate (length s₀ - at) (c - at) 0 0 (omega arith))) (omega arith) (rw length-replicate (omega arith))
+    ∙ one-more 0 s₀ s at z (c - at) 0 e (sym (getD-replicate (length s₀ - at) (c - at) 0 0 (omega arith))) (omega arith) (rw length-replicate (omega arith))
     ∙ ap (paste s₀ at z) (let q : c - at + 1 ≡ c + 1 - at = omega arith in q)
 
 done : (s₀ s : List ℕ) (at c : ℕ) → at ≤ c → c ≡ length s₀ → s ≡ paste s₀ at (zeros s₀ at) (c - at) → s ≡ written s₀ at (zeros s₀ at)

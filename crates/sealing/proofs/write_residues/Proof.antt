@@ -59,7 +59,7 @@ loop-again c =
     let numbers = a .numbers .now in (
       omega arith,
       length-set (l .sheet) (a .at + l .i) (c .residue .result) ∙ l .inv .1,
-      one-more (a .sheet .now) (l .sheet) (a .at) (map residue numbers) (l .i) (c .residue .result) (l .inv .2)
+      one-more 0 (a .sheet .now) (l .sheet) (a .at) (map residue numbers) (l .i) (c .residue .result) (l .inv .2)
           (c .residue .ensures ∙ ap residue (back w32 (getD numbers (l .i) (pos 0)) (c .before .number .given)) ∙ sym (List·getD-map residue numbers (l .i) (pos 0)))
           (inside c)
           (rw length-map (c .before .before .loop-test .taken)),
