@@ -1,17 +1,18 @@
 -- A list of orders and its bytes: orders are read back from their bytes (orders-read-back), and bytes that are accepted are those of the orders read (accepted-bytes-shortest).
 use Prim.Native.Nat.{ℕ, zero, suc, _+_, _-_, _<_, _≤_}
 use mathlib.Core.Path.{_≡_, refl, sym, ap, _∙_}
-use mathlib.Core.Bool.{Bool, cond, true≢false}
+use mathlib.Core.Bool.{Bool, cond}
 use mathlib.Core.List.{List, [], _∷_, _++_}
 use native.Mathlib.Omega.{arith}
 use lib.ListN.{length, drop, drop-of-length-le, length-append, length-drop}
 use lib.Seq.{drop-drop, drop-append-seam}
 use borrow.Author.Tests.{lt-ltb, le-ltb}
 use Rattle.definitions.specs.declared.Order.{Order}
-use Rattle.definitions.specs.Answers.{none, refuse, isNone}
+use Rattle.definitions.specs.Answers.{none, refuse}
 use Rattle.definitions.specs.Machine.{AllWellFormed}
 use Rattle.definitions.specs.Bytes.{orderBytes, ordersBytes, Read, fault, found, orderAt, Parsed, noOrders, oneMore, continue, parseFrom, parse}
 use Rattle.laws.specs.Tests.{Lt?, less, more, lt?}
+use Rattle.laws.specs.Refusal.{not-refused}
 use Rattle.codec.specs.Groups.{Bytes}
 use Rattle.codec.specs.OrderBytes.{bytes-append, order-bytes, at-least-three, read-written-at, order-read, only-shortest}
 
@@ -87,7 +88,7 @@ module _ (s : List ℕ) where
       go (less l) later e = one (orderAt s at) refl e
         where
           one : (r : Read Order) → orderAt s at ≡ r → continue at r (λ next. parseFrom s k next) .refusal ≡ none → drop at s ≡ ordersBytes (continue at r (λ next. parseFrom s k next) .orders)
-          one (fault number) q e = absurd (true≢false (sym (ap isNone e)))
+          one (fault number) q e = not-refused e
           one (found o next) q e =
               let r = only-shortest s at o next b q in
               r .bytes ∙ ap (λ (xs : List ℕ). orderBytes o ++ xs) (later next (omega (arith, r .size, at-least-three o)) e)

@@ -1,7 +1,7 @@
 -- What is known of a call that is not refused, and what each call leaves.
 use Prim.Native.Nat.{ℕ}
-use mathlib.Core.Path.{_≡_, refl, sym, ap, _∙_}
-use mathlib.Core.Bool.{Bool, true, false, true≢false}
+use mathlib.Core.Path.{_≡_, refl, ap, _∙_}
+use mathlib.Core.Bool.{false}
 use mathlib.Core.List.{List}
 use lib.Dec.{eqb}
 use lib.ListN.{length}
@@ -9,7 +9,7 @@ use borrow.Author.Tests.{eqb-true}
 use Rattle.definitions.specs.Answers.{Refusal, none, refuse, first, unless, isNone}
 use Rattle.definitions.specs.Calls.{countsRefusal, lengthRefusal}
 use Rattle.definitions.specs.Plan.{Plan, positionRefusal, roomRefusal, askRefusal, writeRefusal, over, bytesWritten, writtenCounts, lowestFirst, countBytes, totalRefusal, totalSlice, bytesRefusal, bytesSlice, countsSlice}
-use Rattle.laws.specs.Refusal.{first-left, first-right, unless-refused}
+use Rattle.laws.specs.Refusal.{not-refused, test-passed, first-left, first-right, unless-refused}
 
 -- ---- refusals in turn
 
@@ -20,15 +20,11 @@ first-grouped (refuse k x) b c = refl
 -- b, which refuses nothing, stands after a or nowhere
 pub passed-between : (a b c d : Refusal) → first a b ≡ none → first (first a c) d ≡ first a (first b (first c d))
 passed-between none none c d e = refl
-passed-between none (refuse k x) c d e = absurd (true≢false (sym (ap isNone e)))
+passed-between none (refuse k x) c d e = not-refused e
 passed-between (refuse k x) b c d e = refl
 
 stated-length : (a b : ℕ) → lengthRefusal (eqb a b) ≡ none → a ≡ b
-stated-length a b = go (eqb a b) refl
-  where
-    go : (t : Bool) → eqb a b ≡ t → lengthRefusal t ≡ none → a ≡ b
-    go true p e = eqb-true a b p
-    go false p e = absurd (true≢false (sym (ap isNone e)))
+stated-length a b e = eqb-true a b (test-passed (eqb a b) 3 0 e)
 
 -- ---- the total
 

@@ -1,12 +1,25 @@
 -- Refusals one after another: what a loop that leaves at the first one has found, and what acceptance says of each.
 use Prim.Native.Nat.{ℕ, zero, suc, _+_, _<_}
 use mathlib.Core.Path.{_≡_, refl, sym, ap, _∙_}
-use mathlib.Core.Bool.{true, false, true≢false}
+use mathlib.Core.Bool.{Bool, true, false, cond, true≢false}
 use native.Mathlib.Omega.{arith}
 use native.Mathlib.Nat.{zero-add, add-zero}
 use native.Mathlib.Numerals.{add-one}
 use Rattle.definitions.specs.Answers.{Refusal, none, refuse, first, unless, isNone, numbered}
 use Rattle.definitions.specs.Calls.{firstFrom}
+
+-- a refusal is not none
+pub not-refused : {A : Type 0} {number place : ℕ} → refuse number place ≡ none → A
+not-refused e = absurd (true≢false (sym (ap isNone e)))
+
+-- no refusal by a test that refuses if it fails, or if it holds
+pub test-passed : (t : Bool) (number place : ℕ) → cond t none (refuse number place) ≡ none → t ≡ true
+test-passed true number place e = refl
+test-passed false number place e = not-refused e
+
+pub test-failed : (t : Bool) (number place : ℕ) → cond t (refuse number place) none ≡ none → t ≡ false
+test-failed true number place e = not-refused e
+test-failed false number place e = refl
 
 -- a refusal ends the search, and none goes on
 pub first-refused : (r next : Refusal) → isNone r ≡ false → first r next ≡ r
@@ -28,7 +41,7 @@ first-left (refuse k x) next e = e
 
 pub first-right : (r next : Refusal) → first r next ≡ none → next ≡ none
 first-right none next e = e
-first-right (refuse k x) next e = absurd (true≢false (sym (ap isNone e)))
+first-right (refuse k x) next e = not-refused e
 
 -- what a slice holds after the call
 pub unless-none : {A : Type 0} (r : Refusal) (given before : A) → isNone r ≡ true → unless r given before ≡ given
@@ -81,4 +94,4 @@ each-from i (suc k) f h =
 -- a refusal by its number is none only for the number 0
 pub numbered-zero : (number place : ℕ) → numbered number place ≡ none → number ≡ 0
 numbered-zero zero place e = refl
-numbered-zero (suc k) place e = absurd (true≢false (sym (ap isNone e)))
+numbered-zero (suc k) place e = not-refused e

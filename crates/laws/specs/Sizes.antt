@@ -1,20 +1,17 @@
 -- What a book's counts and lengths are, if they are not refused.
 use Prim.Native.Nat.{ℕ, _*_, _≤_}
-use mathlib.Core.Path.{_≡_, refl, sym, ap}
-use mathlib.Core.Bool.{Bool, true, false, cond, _&&_, _||_, true≢false}
+use mathlib.Core.Path.{_≡_, refl}
+use mathlib.Core.Bool.{Bool, true, false, cond, _&&_, _||_}
 use native.Mathlib.Omega.{arith}
 use lib.Dec.{ltb, eqb}
 use lib.ListN.{length}
 use borrow.Author.Tests.{ltb-false, eqb-true, eqb-false}
 use Rattle.definitions.specs.Limits.{bidLimit, poolLimit, cellCount, bidNumbers}
-use Rattle.definitions.specs.Answers.{Refusal, none, refuse, first, isNone}
+use Rattle.definitions.specs.Answers.{Refusal, none, refuse, first}
 use Rattle.definitions.specs.Book.{Book}
 use Rattle.definitions.specs.Calls.{poolsRefusal, countsRefusal, lengthRefusal, tablesRight, bidsRefusal, capacitiesRefusal, sealRefusal}
-use Rattle.laws.specs.Refusal.{first-left, first-right}
-
--- a refusal is not none
-not-refused : {A : Type 0} (number place : ℕ) → refuse number place ≡ none → A
-not-refused number place e = absurd (true≢false (sym (ap isNone e)))
+use Rattle.laws.specs.Tests.{and-left, and-right}
+use Rattle.laws.specs.Refusal.{not-refused, test-passed, first-left, first-right}
 
 pub record PoolCount (m : ℕ) : Type 0 where
   pub least : 1 ≤ m
@@ -24,8 +21,8 @@ pub pools-counted : (m : ℕ) → poolsRefusal m ≡ none → PoolCount m
 pools-counted m = go (eqb m 0) (ltb poolLimit m) refl refl
   where
     go : (a b : Bool) → eqb m 0 ≡ a → ltb poolLimit m ≡ b → cond (a || b) (refuse 2 0) none ≡ none → PoolCount m
-    go true b p q e = not-refused 2 0 e
-    go false true p q e = not-refused 2 0 e
+    go true b p q e = not-refused e
+    go false true p q e = not-refused e
     go false false p q e = let h : m ≡ 0 → ⊥ = eqb-false m 0 p in record { least = omega arith; most = ltb-false poolLimit m q }
 
 pub record Counts (n m : ℕ) : Type 0 where
@@ -36,7 +33,7 @@ pub counted : (n m : ℕ) → countsRefusal n m ≡ none → Counts n m
 counted n m = go (ltb bidLimit n) refl
   where
     go : (a : Bool) → ltb bidLimit n ≡ a → cond a (refuse 1 0) (poolsRefusal m) ≡ none → Counts n m
-    go true p e = not-refused 1 0 e
+    go true p e = not-refused e
     go false p e = record { bids = ltb-false bidLimit n p; pools = pools-counted m e }
 
 pub record Lengths (n m bids capacities cells : ℕ) : Type 0 where
@@ -45,13 +42,12 @@ pub record Lengths (n m bids capacities cells : ℕ) : Type 0 where
   pub sheet : cells ≡ cellCount
 
 pub measured : (n m bids capacities cells : ℕ) → lengthRefusal ((eqb bids (bidNumbers * n) && eqb capacities (m * m)) && eqb cells cellCount) ≡ none → Lengths n m bids capacities cells
-measured n m bids capacities cells = go (eqb bids (bidNumbers * n)) (eqb capacities (m * m)) (eqb cells cellCount) refl refl refl
-  where
-    go : (a b d : Bool) → eqb bids (bidNumbers * n) ≡ a → eqb capacities (m * m) ≡ b → eqb cells cellCount ≡ d → lengthRefusal ((a && b) && d) ≡ none → Lengths n m bids capacities cells
-    go true true true p q r e = record { bid-table = eqb-true bids (bidNumbers * n) p; capacity-table = eqb-true capacities (m * m) q; sheet = eqb-true cells cellCount r }
-    go true true false p q r e = not-refused 3 0 e
-    go true false d p q r e = not-refused 3 0 e
-    go false b d p q r e = not-refused 3 0 e
+measured n m bids capacities cells e =
+    let bid-test : Bool = eqb bids (bidNumbers * n) in
+    let table-test : Bool = bid-test && eqb capacities (m * m) in
+    let all = test-passed (table-test && eqb cells cellCount) 3 0 e in
+    let tables = and-left table-test _ all in
+    record { bid-table = eqb-true _ _ (and-left bid-test _ tables); capacity-table = eqb-true _ _ (and-right bid-test _ tables); sheet = eqb-true _ _ (and-right table-test _ all) }
 
 -- of a book that is accepted for a sheet of some cells
 pub record Sizes (B : Book) (cells : ℕ) : Type 0 where

@@ -1,7 +1,7 @@
 -- What is known of counts, lengths and cells that opening does not refuse, and the slice that it leaves.
 use Prim.Native.Nat.{ℕ, _*_, _≤_, _<_}
-use mathlib.Core.Path.{_≡_, refl, sym, ap, _∙_}
-use mathlib.Core.Bool.{Bool, true, false, _&&_, true≢false}
+use mathlib.Core.Path.{_≡_, sym, ap, _∙_}
+use mathlib.Core.Bool.{Bool, true, false, _&&_}
 use mathlib.Core.List.{List}
 use native.Mathlib.Nat.{mul-le-mul-right}
 use lib.Dec.{eqb}
@@ -13,7 +13,8 @@ use Rattle.definitions.specs.Answers.{Refusal, none, first, isNone}
 use Rattle.definitions.specs.Sheet.{resultCount}
 use Rattle.definitions.specs.Machine.{cell}
 use Rattle.definitions.specs.Calls.{countsRefusal, lengthRefusal, cellsRefusal, openRefusal, openedResults, openSlice}
-use Rattle.laws.specs.Refusal.{first-left, first-right, is-none, unless-none, unless-refused}
+use Rattle.laws.specs.Tests.{and-left, and-right}
+use Rattle.laws.specs.Refusal.{test-passed, first-left, first-right, is-none, unless-none, unless-refused}
 use Rattle.laws.specs.Sizes.{Counts, counted}
 use Rattle.residues.specs.Cells.{cells-below}
 
@@ -26,12 +27,9 @@ pub record Lengths (n m cells results : ℕ) : Type 0 where
   pub out : results ≡ resultCount n m
 
 pub measured : (n m cells results : ℕ) → lengthRefusal (eqb cells cellCount && eqb results (resultCount n m)) ≡ none → Lengths n m cells results
-measured n m cells results = go (eqb cells cellCount) (eqb results (resultCount n m)) refl refl
-  where
-    go : (a b : Bool) → eqb cells cellCount ≡ a → eqb results (resultCount n m) ≡ b → lengthRefusal (a && b) ≡ none → Lengths n m cells results
-    go true true p q e = record { sheet = eqb-true cells cellCount p; out = eqb-true results (resultCount n m) q }
-    go true false p q e = absurd (true≢false (sym (ap isNone e)))
-    go false b p q e = absurd (true≢false (sym (ap isNone e)))
+measured n m cells results e =
+    let both = test-passed (eqb cells cellCount && eqb results (resultCount n m)) 3 0 e in
+    record { sheet = eqb-true _ _ (and-left (eqb cells cellCount) _ both); out = eqb-true _ _ (and-right (eqb cells cellCount) _ both) }
 
 pub record Openable (n m : ℕ) (sheet : List ℕ) (results : ℕ) : Type 0 where
   pub counts : Counts n m

@@ -1,7 +1,7 @@
 -- A list of 4,096 cells is a sheet exactly if none of its cells is refused.
 use Prim.Native.Nat.{ℕ, _+_, _<_}
-use mathlib.Core.Path.{_≡_, refl, sym, ap}
-use mathlib.Core.Bool.{Bool, true, false, cond, true≢false}
+use mathlib.Core.Path.{_≡_}
+use mathlib.Core.Bool.{cond}
 use mathlib.Core.List.{List}
 use native.Mathlib.Omega.{arith}
 use native.Mathlib.Decide.{decLt}
@@ -10,27 +10,20 @@ use lib.Dec.{ltb}
 use lib.ListN.{length, List·getD-eq-default}
 use borrow.Author.Tests.{ltb-true, lt-ltb}
 use Rattle.definitions.specs.Limits.{cellCount, modulus}
-use Rattle.definitions.specs.Answers.{Refusal, none, refuse, isNone}
+use Rattle.definitions.specs.Answers.{Refusal, none, refuse}
 use Rattle.definitions.specs.Machine.{cell, IsSheet}
 use Rattle.definitions.specs.Calls.{cellsRefusal}
-use Rattle.laws.specs.Refusal.{from-each, each-from}
+use Rattle.laws.specs.Refusal.{test-passed, from-each, each-from}
 
 -- what is said of cell c, which holds x
 abbrev cellRefusal : (x c : ℕ) → Refusal
 cellRefusal x c = cond (ltb x modulus) none (refuse 15 c)
 
-not-refused : (x c : ℕ) → cellRefusal x c ≡ none → x < modulus
-not-refused x c = go (ltb x modulus) refl
-  where
-    go : (t : Bool) → ltb x modulus ≡ t → cond t none (refuse 15 c) ≡ none → x < modulus
-    go true q e = ltb-true x modulus q
-    go false q e = absurd (true≢false (sym (ap isNone e)))
-
 -- a cell behind the last reads as 0
 pub cells-below : (s : List ℕ) → cellsRefusal s ≡ none → (c : ℕ) → cell s c < modulus
 unfolding cellsRefusal
 cells-below s e c = elim (decLt c (length s)) [
-  | yes l ↦ not-refused (cell s c) c (rw (zero-add c) at (from-each 0 (length s) (λ i. cellRefusal (cell s i) i) e c l))
+  | yes l ↦ ltb-true (cell s c) modulus (test-passed _ 15 c (rw (zero-add c) at (from-each 0 (length s) (λ i. cellRefusal (cell s i) i) e c l)))
   | no l ↦ rw (List·getD-eq-default s 0 {n = c} (omega arith)) (omega arith)
 ]
 

@@ -1,22 +1,19 @@
 -- The runner's refusals in turn, what an accepted run says of its sheet, and that the bytes of a list of orders run as that list (orders-bytes-run).
-use Prim.Native.Nat.{ℕ, _<_}
+use Prim.Native.Nat.{ℕ}
 use mathlib.Core.Path.{_≡_, refl, sym, ap, _∙_, subst}
-use mathlib.Core.Bool.{Bool, true, false, cond, true≢false}
+use mathlib.Core.Bool.{true, false}
 use mathlib.Core.List.{List}
-use native.Mathlib.Omega.{arith}
-use native.Mathlib.Decide.{decLt}
-use native.Mathlib.Nat.{zero-add}
-use lib.Dec.{eqb, ltb}
-use lib.ListN.{length, List·getD-eq-default}
-use borrow.Author.Tests.{eq-eqb, ne-eqb, lt-ltb}
+use lib.Dec.{eqb}
+use lib.ListN.{length}
+use borrow.Author.Tests.{eq-eqb, ne-eqb, eqb-true}
 use Rattle.definitions.specs.declared.Order.{Order}
-use Rattle.definitions.specs.Limits.{cellCount, modulus}
+use Rattle.definitions.specs.Limits.{cellCount}
 use Rattle.definitions.specs.Answers.{Refusal, none, refuse, isNone, first}
-use Rattle.definitions.specs.Machine.{cell, IsSheet, runOf, AllWellFormed}
+use Rattle.definitions.specs.Machine.{IsSheet, runOf, AllWellFormed}
 use Rattle.definitions.specs.Bytes.{Parsed, ordersBytes, parse}
 use Rattle.definitions.specs.Calls.{cellsRefusal, lengthRefusal, runRefusal, runSheet, runCount}
-use Rattle.laws.specs.Tests.{Eq?, same, diff, eq?, Lt?, less, more, lt?}
-use Rattle.laws.specs.Refusal.{first-refused, first-none, first-left, first-right, from-each, each-from, unless-none, unless-refused}
+use Rattle.laws.specs.Refusal.{test-passed, first-refused, first-none, first-left, first-right, unless-none, unless-refused}
+use Rattle.residues.specs.Cells as accepted
 use Rattle.codec.specs.PlanBytes.{orders-read-back, parsed-well-formed}
 use Rattle.machine.specs.Run.{run-sheet}
 
@@ -56,51 +53,17 @@ module _ (sheet bytes : List ℕ) where
 -- ---- a sheet is what the length and the cells accept
 
 module _ (sheet : List ℕ) where
-  abbrev cellRefusal : ℕ → Refusal
-  cellRefusal c = cond (ltb (cell sheet c) modulus) none (refuse 15 c)
-
-  cell-below : (c : ℕ) → cellRefusal c ≡ none → cell sheet c < modulus
-  cell-below c e = go (lt? (cell sheet c) modulus) e
-    where
-      go : {t : Bool} → Lt? (cell sheet c) modulus t → cond t none (refuse 15 c) ≡ none → cell sheet c < modulus
-      go (less h) e = h
-      go (more h) e = absurd (true≢false (sym (ap isNone e)))
-
-  cells-below : cellsRefusal sheet ≡ none → (c : ℕ) → cell sheet c < modulus
-  unfolding cellsRefusal
-  cells-below e c = go (decLt c (length sheet))
-    where
-      go : Dec (c < length sheet) → cell sheet c < modulus
-      go (yes h) = cell-below c (subst (λ (i : ℕ). cellRefusal i ≡ none) (zero-add c) (from-each 0 (length sheet) cellRefusal e c h))
-      go (no h) = rw (List·getD-eq-default sheet 0 {n = c} (omega arith)) (omega arith)
-
-  length-accepted : lengthRefusal (eqb (length sheet) cellCount) ≡ none → length sheet ≡ cellCount
-  length-accepted e = go (eq? (length sheet) cellCount) e
-    where
-      go : {t : Bool} → Eq? (length sheet) cellCount t → lengthRefusal t ≡ none → length sheet ≡ cellCount
-      go (same p) e = p
-      go (diff p) e = absurd (true≢false (sym (ap isNone e)))
-
   pub accepted-sheet : (bytes : List ℕ) → runRefusal sheet bytes ≡ none → IsSheet sheet
   unfolding runRefusal
   accepted-sheet bytes e =
       let rest : Refusal = first (cellsRefusal sheet) (parse bytes .refusal) in
-      let later : rest ≡ none = first-right (lengthRefusal (eqb (length sheet) cellCount)) rest e in
-      record {
-        cells = length-accepted (first-left (lengthRefusal (eqb (length sheet) cellCount)) rest e);
-        below = cells-below (first-left (cellsRefusal sheet) (parse bytes .refusal) later);
-      }
-
-  sheet-cells : IsSheet sheet → cellsRefusal sheet ≡ none
-  unfolding cellsRefusal
-  sheet-cells h = each-from 0 (length sheet) cellRefusal (λ c l. subst (λ (i : ℕ). cellRefusal i ≡ none) (sym (zero-add c)) (accepted-cell c))
-    where
-      accepted-cell : (c : ℕ) → cellRefusal c ≡ none
-      accepted-cell c = rw (lt-ltb (cell sheet c) modulus (h .below c)) refl
+      let stated : Refusal = lengthRefusal (eqb (length sheet) cellCount) in
+      accepted.accepted-sheet sheet (eqb-true (length sheet) cellCount (test-passed _ 3 0 (first-left stated rest e)))
+      (first-left (cellsRefusal sheet) (parse bytes .refusal) (first-right stated rest e))
 
   -- of a sheet, the bytes alone are refused
   pub sheet-refusal : (bytes : List ℕ) → IsSheet sheet → runRefusal sheet bytes ≡ parse bytes .refusal
-  sheet-refusal bytes h = refused-bytes sheet bytes (h .cells) (ap isNone (sheet-cells h))
+  sheet-refusal bytes h = refused-bytes sheet bytes (h .cells) (ap isNone (accepted.sheet-accepted sheet h))
 
 -- ---- the bytes of a list of orders
 

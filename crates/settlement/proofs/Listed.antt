@@ -1,7 +1,7 @@
 -- A sheet that opening does not refuse: its results are those defined, and there is a listing of them wherever there is room.
 use Prim.Native.Nat.{ℕ, _+_, _≤_}
-use mathlib.Core.Path.{_≡_, refl, sym, ap, _∙_}
-use mathlib.Core.Bool.{Bool, true, false, _&&_, true≢false}
+use mathlib.Core.Path.{_≡_, refl, ap, _∙_}
+use mathlib.Core.Bool.{true, _&&_}
 use mathlib.Core.List.{List}
 use native.Mathlib.Omega.{arith}
 use native.Mathlib.Nat.{mul-le-mul-right}
@@ -13,18 +13,13 @@ use borrow.Author.Tests.{eqb-true, eq-eqb}
 use Rattle.definitions.specs.Limits.{bidLimit, poolLimit, cellCount}
 use Rattle.definitions.specs.Arithmetic.{reading}
 use Rattle.definitions.specs.Sheet.{firstResult, resultCount}
-use Rattle.definitions.specs.Answers.{Refusal, none, first, unless, isNone}
+use Rattle.definitions.specs.Answers.{Refusal, none, first, unless}
 use Rattle.definitions.specs.Calls.{countsRefusal, lengthRefusal, cellsRefusal, openRefusal, openedResults, openSlice}
 use Rattle.definitions.specs.Settle.{listing}
 use Rattle.laws.specs.Tests.{and-left}
-use Rattle.laws.specs.Refusal.{first-left, first-right}
+use Rattle.laws.specs.Refusal.{test-passed, first-left, first-right}
 use Rattle.laws.specs.Sizes.{Counts, counted}
 use Rattle.listing.specs.Text.{textRoom, textSize, textSlice, listable, listingSize, listingSlice}
-
--- no length is refused
-as-stated : (t : Bool) → lengthRefusal t ≡ none → t ≡ true
-as-stated true e = refl
-as-stated false e = absurd (true≢false (sym (ap isNone e)))
 
 -- the results of few bids and pools end on the sheet
 pub results-end : (n m : ℕ) → n ≤ bidLimit → m ≤ poolLimit → firstResult n m + resultCount n m ≤ cellCount
@@ -38,7 +33,7 @@ module _ (n m : ℕ) (sheet : List ℕ) (results : ℕ) (opens : openRefusal n m
   lengths : (eqb (length sheet) cellCount && eqb results (resultCount n m)) ≡ true
   unfolding openRefusal
   lengths =
-      as-stated (eqb (length sheet) cellCount && eqb results (resultCount n m))
+      test-passed (eqb (length sheet) cellCount && eqb results (resultCount n m)) 3 0
       (first-left (lengthRefusal (eqb (length sheet) cellCount && eqb results (resultCount n m))) (cellsRefusal sheet)
       (first-right (countsRefusal n m) (first (lengthRefusal (eqb (length sheet) cellCount && eqb results (resultCount n m))) (cellsRefusal sheet)) opens))
 

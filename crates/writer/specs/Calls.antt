@@ -1,29 +1,14 @@
 -- What is known of a call of the writer that is not refused (`write-within`), and what each call leaves.
 use Prim.Native.Nat.{ℕ, _≤_}
-use mathlib.Core.Path.{_≡_, refl, sym, ap}
-use mathlib.Core.Bool.{Bool, true, false, cond, true≢false}
+use mathlib.Core.Path.{_≡_, ap}
+use mathlib.Core.Bool.{false}
 use mathlib.Core.List.{List}
-use lib.Dec.{ltb}
 use lib.ListN.{length}
 use borrow.Author.Tests.{ltb-false}
-use Rattle.definitions.specs.Answers.{Refusal, none, refuse, unless, isNone}
+use Rattle.definitions.specs.Answers.{Refusal, none, unless, isNone}
 use Rattle.definitions.specs.Calls.{countsRefusal}
 use Rattle.definitions.specs.Plan.{Plan, positionRefusal, roomRefusal, askRefusal, writeRefusal, over, bytesWritten, nothingWritten, writtenCounts, writeCounts, writeSlice}
-use Rattle.laws.specs.Refusal.{first-left, first-right, unless-refused}
-
-not-past : (orders at : ℕ) → cond (ltb orders at) (refuse 13 0) none ≡ none → at ≤ orders
-not-past orders at = go (ltb orders at) refl
-  where
-    go : (t : Bool) → ltb orders at ≡ t → cond t (refuse 13 0) none ≡ none → at ≤ orders
-    go true p e = absurd (true≢false (sym (ap isNone e)))
-    go false p e = ltb-false orders at p
-
-roomy : (room : ℕ) → roomRefusal room ≡ none → 8 ≤ room
-roomy room = go (ltb room 8) refl
-  where
-    go : (t : Bool) → ltb room 8 ≡ t → cond t (refuse 14 0) none ≡ none → 8 ≤ room
-    go true p e = absurd (true≢false (sym (ap isNone e)))
-    go false p e = ltb-false room 8 p
+use Rattle.laws.specs.Refusal.{test-failed, first-left, first-right, unless-refused}
 
 pub record Within (P : Plan) (n m at bytes : ℕ) : Type 0 where
   pub counts : countsRefusal n m ≡ none
@@ -37,8 +22,8 @@ module _ (P : Plan) (n m at room : ℕ) where
       let asked = first-left (askRefusal P n m at) (roomRefusal room) e in
       record {
         counts = first-left (countsRefusal n m) (positionRefusal (P n m) at) asked;
-        position = not-past (length (P n m)) at (first-right (countsRefusal n m) (positionRefusal (P n m) at) asked);
-        room = roomy room (first-right (askRefusal P n m at) (roomRefusal room) e);
+        position = ltb-false (length (P n m)) at (test-failed _ 13 0 (first-right (countsRefusal n m) (positionRefusal (P n m) at) asked));
+        room = ltb-false room 8 (test-failed _ 14 0 (first-right (askRefusal P n m at) (roomRefusal room) e));
       }
 
   pub counts-accepted : writeRefusal P n m at room ≡ none → writeCounts P n m at room ≡ writtenCounts P n m at room
