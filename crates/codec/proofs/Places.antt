@@ -12,10 +12,6 @@ use borrow.Author.Tests.{lt-ltb, le-ltb}
 use Rattle.definitions.specs.Bytes.{groups, short, bad, lastGroup, moreGroups, readGroups}
 use Rattle.codec.specs.Groups.{groupsLimit}
 
-pub positive : (n : ℕ) → (n ≡ 0 → ⊥) → 0 < n
-positive zero h = absurd (h refl)
-positive (suc n) h = omega arith
-
 -- ---- reading
 
 pub no-groups : (g : ℕ) (first : Bool) (xs : List ℕ) → g ≡ 0 → bad ≡ readGroups g first xs

@@ -1,22 +1,18 @@
 -- Runs of stores one after another, and an order's bytes by its numbers.
-use Prim.Native.Nat.{ℕ, suc, _+_, _≤_}
+use Prim.Native.Nat.{ℕ, _+_, _≤_}
 use mathlib.Core.Path.{_≡_, sym, ap, _∙_}
 use mathlib.Core.Bool.{cond}
-use mathlib.Core.List.{List, [], _∷_, _++_, append-assoc}
+use mathlib.Core.List.{List, _++_, append-assoc}
 use native.Mathlib.Omega.{arith}
-use native.Mathlib.Nat.{add-zero, suc-add, add-suc}
 use lib.Dec.{eqb}
-use lib.ListN.{length, set, length-append}
+use lib.ListN.{length, length-append}
 use lib.Seq.{sets}
 use Rattle.definitions.specs.declared.Order.{Order}
 use Rattle.definitions.specs.declared.Order.the-variants.{Constant, Sum, Difference, Product, Less, Equal}
 use Rattle.definitions.specs.Bytes.{numberBytes, orderBytes}
+use Rattle.laws.specs.Write.{sets-append}
 use Rattle.codec.specs.declared.OrderNumbers.{OrderNumbers}
 use Rattle.codec.specs.Written.{numbersOf}
-
-sets-append : (out : List ℕ) (at : ℕ) (xs ys : List ℕ) → sets out at (xs ++ ys) ≡ sets (sets out at xs) (at + length xs) ys
-sets-append out at [] ys = ap (λ (n : ℕ). sets out n ys) (sym (add-zero at))
-sets-append out at (x ∷ xs) ys = sets-append (set out at x) (suc at) xs ys ∙ ap (λ (n : ℕ). sets (sets (set out at x) (suc at) xs) n ys) (suc-add at (length xs) ∙ sym (add-suc at (length xs)))
 
 -- xs written at an offset, and ys behind them, are xs ++ ys written at that offset
 pub both : (out out₁ out₂ : List ℕ) (at next last : ℕ) (xs ys : List ℕ)

@@ -11,6 +11,7 @@ use borrow.Author.Tests.{ltb-true, ltb-false, le-leb, lt-leb, eqb-true, eq-eqb}
 use mir.Syntax.{Width}
 use mir.Val.{SFits, Fits, toZ, ofZ, bits, hbits}
 use mir.Facts.{toZ-ofZ, fits-natAbs}
+use Rattle.laws.specs.Tests.{is-false}
 
 pub lt-not-le : (a b : ℤ) → ltZ a b ≡ true → leZ b a ≡ false
 lt-not-le (pos a) (pos b) e = lt-leb b a (ltb-true a b e)
@@ -68,10 +69,6 @@ same-bits {w = w} f g e = sym (toZ-ofZ f) ∙ ap (toZ w) e ∙ toZ-ofZ g
 
 pub eq-yes : {w : Width} {x y : ℤ} → SFits w x → SFits w y → ofZ w x ≡ ofZ w y → eqZ x y ≡ true
 eq-yes {x = x} f g e = subst (λ (z : ℤ). eqZ x z ≡ true) (same-bits f g e) (eqZ-refl x)
-
-is-false : (t : Bool) → (t ≡ true → ⊥) → t ≡ false
-is-false true h = absurd (h refl)
-is-false false h = refl
 
 pub eq-no : (w : Width) (x y : ℤ) → (ofZ w x ≡ ofZ w y → ⊥) → eqZ x y ≡ false
 eq-no w x y h = is-false (eqZ x y) (λ e. h (ap (ofZ w) (eqZ-true x y e)))

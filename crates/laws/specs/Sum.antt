@@ -1,12 +1,13 @@
 -- Sums over an index.
-use mathlib.Core.Path.{_≡_, refl, sym, ap, subst}
+use mathlib.Core.Path.{_≡_, refl, sym, ap, ap₂, subst}
 use mathlib.Core.Bool.{Bool}
 use mathlib.Core.Logic.{_≢_, _⊎_, inl, inr}
 use Prim.Native.Nat.{ℕ, zero, suc, _+_, _*_, _-_, _≤_, _<_}
 use native.Mathlib.Omega.{arith}
 use native.Mathlib.Nat.{eq-or-lt-of-le, add-zero, add-suc}
 use lib.Dec.{eqb}
-use Rattle.definitions.specs.Arithmetic.{on, sumTo}
+use lib.IntN.{ℤ, _+ℤ_}
+use Rattle.definitions.specs.Arithmetic.{on, sumTo, sumZ}
 use Rattle.laws.specs.Tests.{Eq?, same, diff, eq?}
 
 pub sum-ext : (n : ℕ) (f h : ℕ → ℕ) → ((i : ℕ) → i < n → f i ≡ h i) → sumTo n f ≡ sumTo n h
@@ -15,6 +16,11 @@ sum-ext zero f h e = refl
 sum-ext (suc n) f h e =
     let a = sum-ext n f h (λ i l. e i (omega arith)) in
     omega (arith, e n (omega arith))
+
+pub sumZ-ext : (n : ℕ) (f h : ℕ → ℤ) → ((i : ℕ) → i < n → f i ≡ h i) → sumZ n f ≡ sumZ n h
+unfolding sumZ
+sumZ-ext zero f h e = refl
+sumZ-ext (suc n) f h e = ap₂ _+ℤ_ (sumZ-ext n f h (λ i l. e i (omega arith))) (e n (omega arith))
 
 pub sum-le : (n : ℕ) (f h : ℕ → ℕ) → ((i : ℕ) → i < n → f i ≤ h i) → sumTo n f ≤ sumTo n h
 unfolding sumTo

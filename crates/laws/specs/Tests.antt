@@ -28,6 +28,13 @@ lt? a b = elim (decLt a b) [
   | no p ↦ subst (Lt? a b) (sym (le-ltb a b (omega arith))) (more (omega arith))
 ]
 
+pub positive : (n : ℕ) → n ≢ 0 → 0 < n
+positive n h = omega arith
+
+pub is-false : (t : Bool) → (t ≡ true → ⊥) → t ≡ false
+is-false true h = absurd (h refl)
+is-false false h = refl
+
 -- both tests hold
 pub and-left : (x y : Bool) → (x && y) ≡ true → x ≡ true
 and-left true y e = refl

@@ -1,10 +1,11 @@
--- A loop that writes a list into another, element by element (`paste` of lib.Seq says what it has written after n turns).
-use Prim.Native.Nat.{ℕ, _+_, _<_}
+-- A loop that writes a list into another, element by element (`paste` of lib.Seq says what it has written after n turns), and stores behind stores.
+use Prim.Native.Nat.{ℕ, suc, _+_, _<_}
 use mathlib.Core.Path.{_≡_, sym, ap, _∙_}
-use mathlib.Core.List.{List, _++_}
+use mathlib.Core.List.{List, [], _∷_, _++_}
+use native.Mathlib.Nat.{add-zero, suc-add, add-suc}
 use native.Mathlib.Numerals.{add-one}
 use lib.ListN.{length, getD, take, drop, set}
-use lib.Seq.{paste, paste-suc, take-length, take-at, drop-append-add}
+use lib.Seq.{sets, paste, paste-suc, take-length, take-at, drop-append-add}
 
 module _ {A : Type 0} where
   -- d with its elements from index at on replaced by those of s
@@ -25,3 +26,10 @@ module _ {A : Type 0} where
       ap (λ (l : List A). l ++ s ++ drop (at + length s) (p ++ r)) (take-at p r at e)
       ∙ ap (λ (n : ℕ). p ++ s ++ drop (n + length s) (p ++ r)) (sym e)
       ∙ ap (λ (l : List A). p ++ s ++ l) (drop-append-add p r (length s))
+
+  -- the stores of two lists, one behind the other, are those of both in one
+  pub sets-append : (d : List A) (at : ℕ) (xs ys : List A) → sets d at (xs ++ ys) ≡ sets (sets d at xs) (at + length xs) ys
+  sets-append d at [] ys = ap (λ (n : ℕ). sets d n ys) (sym (add-zero at))
+  sets-append d at (x ∷ xs) ys =
+      sets-append (set d at x) (suc at) xs ys
+      ∙ ap (λ (n : ℕ). sets (sets (set d at x) (suc at) xs) n ys) (suc-add at (length xs) ∙ sym (add-suc at (length xs)))

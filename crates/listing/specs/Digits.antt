@@ -11,10 +11,6 @@ use borrow.Author.Tests.{lt-ltb, le-ltb}
 use Rattle.definitions.specs.Settle.{decimalTo, decimal, decimalZ}
 use Rattle.laws.specs.Tests.{Lt?, less, more, lt?}
 
-pub positive : (k : ℕ) → (k ≡ 0 → ⊥) → 0 < k
-positive zero h = absurd (h refl)
-positive (suc k) h = omega arith
-
 -- ---- the cases of the digits
 
 pub no-digits : (k v : ℕ) → k ≡ 0 → decimalTo k v ≡ []

@@ -1,24 +1,18 @@
 -- A piece of text stored in a slice from a position on, and that two pieces stored one behind the other are one (`then`).
-use Prim.Native.Nat.{ℕ, suc, _+_, _≤_}
+use Prim.Native.Nat.{ℕ, _+_, _≤_}
 use mathlib.Core.Path.{_≡_, refl, sym, ap, _∙_, subst}
 use mathlib.Core.List.{List, [], _∷_, _++_}
 use native.Mathlib.Omega.{arith}
-use native.Mathlib.Nat.{add-zero, zero-add, suc-add, add-suc}
+use native.Mathlib.Nat.{add-zero, zero-add}
 use lib.ListN.{length, drop, set, length-append}
 use lib.Seq.{sets, length-sets, sets-eq}
 use Rattle.definitions.specs.Plan.{over}
-use Rattle.laws.specs.Write.{written}
+use Rattle.laws.specs.Write.{written, sets-append}
 
 -- `after` is `before` with the bytes from index at on, and `next` the index behind them
 pub record Put (before : List ℕ) (at : ℕ) (bytes after : List ℕ) (next : ℕ) : Type 0 where
   pub behind : next ≡ at + length bytes
   pub stored : after ≡ sets before at bytes
-
-sets-append : (d : List ℕ) (at : ℕ) (xs ys : List ℕ) → sets d at (xs ++ ys) ≡ sets (sets d at xs) (at + length xs) ys
-sets-append d at [] ys = ap (λ (n : ℕ). sets d n ys) (sym (add-zero at))
-sets-append d at (x ∷ xs) ys =
-    sets-append (set d at x) (suc at) xs ys
-    ∙ ap (λ (n : ℕ). sets (sets (set d at x) (suc at) xs) n ys) (suc-add at (length xs) ∙ sym (add-suc at (length xs)))
 
 -- nothing
 pub nothing : (d : List ℕ) (at : ℕ) → Put d at [] d at

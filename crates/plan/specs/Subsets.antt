@@ -1,12 +1,13 @@
 -- Sets of pools as numbers: membership, complement, and sums over a set built from the sum without its lowest pool (`lowest-sum`).
 use mathlib.Core.Path.{_≡_, refl, ap, _∙_}
-use mathlib.Core.Bool.{Bool, true, false, not, cond}
+use mathlib.Core.Bool.{Bool, not, cond}
 use Prim.Native.Nat.{ℕ, zero, suc, _+_, _-_, _*_, _%_, _/_, _^_, _≤_, _<_}
 use native.Mathlib.Omega.{arith}
 use lib.Dec.{eqb}
 use Rattle.definitions.specs.Arithmetic.{on, sumTo}
 use Rattle.laws.specs.Sum.{sum-ext, sum-le}
 use Rattle.laws.specs.Tests.{Eq?, same, diff, eq?}
+use Rattle.theory.specs.Choices.{on-le}
 unfoldable pub use Rattle.theory.specs.Subsets.{member}
 unfoldable pub use Rattle.theory.specs.ClosedForms.{subsetSum}
 pub use Rattle.theory.specs.ClosedForms.{leaves}
@@ -84,11 +85,7 @@ lowest-sum (suc m) x S p h = go (eq? (S % 2) 1) (lowest-sum m (λ p. x (suc p)) 
 
 pub subset-le : (m : ℕ) (x : ℕ → ℕ) (S : ℕ) → subsetSum m x S ≤ sumTo m x
 unfolding subsetSum
-subset-le m x S = sum-le m _ x (λ p _. go (member S p) (x p))
-  where
-    go : (t : Bool) (v : ℕ) → on t v ≤ v
-    go true v = omega arith
-    go false v = omega arith
+subset-le m x S = sum-le m _ x (λ p _. on-le (member S p) (x p))
 
 -- the empty set
 pub subset-empty : (m : ℕ) (x : ℕ → ℕ) → subsetSum m x 0 ≡ 0

@@ -46,10 +46,6 @@ pub is-true : (x : Bool) → (x ≡ false → ⊥) → x ≡ true
 is-true true h = refl
 is-true false h = absurd (h refl)
 
-pub is-false : (x : Bool) → (x ≡ true → ⊥) → x ≡ false
-is-false true h = absurd (h refl)
-is-false false h = refl
-
 pub iff : (x y : Bool) → (x ≡ true → y ≡ true) → (y ≡ true → x ≡ true) → x ≡ y
 iff true y h k = sym (h refl)
 iff false true h k = k refl

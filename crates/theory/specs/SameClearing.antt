@@ -1,13 +1,13 @@
 -- Only the amounts of the book's bids and the flows of its lines count: clearings that share them are feasible, best, permitted together, with the same welfare.
-use mathlib.Core.Path.{_≡_, refl, sym, ap, ap₂, _∙_}
+use mathlib.Core.Path.{_≡_, sym, ap, ap₂, _∙_}
 use mathlib.Core.Bool.{Bool, true, false, not, _&&_, cond}
-use Prim.Native.Nat.{ℕ, zero, suc, _-_, _≤_, _<_}
+use Prim.Native.Nat.{ℕ, _-_, _≤_, _<_}
 use native.Mathlib.Omega.{arith}
-use lib.IntN.{ℤ, pos, _+ℤ_, _-ℤ_, _*ℤ_}
-use Rattle.definitions.specs.Arithmetic.{on, sumZ}
+use lib.IntN.{ℤ, pos, _-ℤ_, _*ℤ_}
+use Rattle.definitions.specs.Arithmetic.{on}
 use Rattle.definitions.specs.Book.{Book, price, purchase, sale, size, inPool}
 use Rattle.definitions.specs.Clearing.{Clearing, Feasible, sold, bought, inflow, outflow, used, welfare, NoGreater, equal, less, Best, Permitted}
-use Rattle.laws.specs.Sum.{sum-ext}
+use Rattle.laws.specs.Sum.{sum-ext, sumZ-ext}
 use Rattle.theory.specs.FlowOrder as rows
 use Rattle.theory.specs.FlowOrder.{NoLaterFlows, FirstFlows}
 
@@ -82,11 +82,6 @@ module _ (B : Book) (c d : Clearing) (amounts : (i : ℕ) → i < B .n → c .ac
     feasible = feasible-same-clearing (h .feasible);
     first = λ e k q. no-later-same (e .flow) (h .first e k (λ i l. q i l ∙ sym (amounts i l)));
   }
-
-sumZ-ext : (n : ℕ) (f h : ℕ → ℤ) → ((i : ℕ) → i < n → f i ≡ h i) → sumZ n f ≡ sumZ n h
-unfolding sumZ
-sumZ-ext zero f h e = refl
-sumZ-ext (suc n) f h e = ap₂ _+ℤ_ (sumZ-ext n f h (λ i l. e i (omega arith))) (e n (omega arith))
 
 pub welfare-same : (B : Book) (a c : ℕ → ℕ) → ((i : ℕ) → i < B .n → a i ≡ c i) → welfare B a ≡ welfare B c
 unfolding welfare

@@ -1,6 +1,6 @@
 -- Sums of whole numbers over an index: term by term, the difference of two, and the size of one.
 use Prim.Native.Nat.{ℕ, zero, suc, _+_, _*_, _≤_, _<_}
-use mathlib.Core.Path.{_≡_, refl, sym, ap, ap₂, _∙_}
+use mathlib.Core.Path.{_≡_, refl, sym, ap, _∙_}
 use native.Mathlib.Omega.{arith}
 use native.Mathlib.Numerals.{add-one}
 use lib.IntN.{ℤ, pos, negℤ, natAbs, _+ℤ_, _-ℤ_, +ℤ-assoc, +ℤ-comm, negℤ-+ℤ}
@@ -15,11 +15,6 @@ sum-none f = refl
 pub sum-next : (n : ℕ) (f : ℕ → ℤ) → sumZ (n + 1) f ≡ sumZ n f +ℤ f n
 unfolding sumZ
 sum-next n f = rw (add-one n) refl
-
-pub sum-ext : (n : ℕ) (f g : ℕ → ℤ) → ((i : ℕ) → i < n → f i ≡ g i) → sumZ n f ≡ sumZ n g
-unfolding sumZ
-sum-ext zero f g e = refl
-sum-ext (suc n) f g e = ap₂ _+ℤ_ (sum-ext n f g (λ i l. e i (omega arith))) (e n (omega arith))
 
 exchanged : (a b c d : ℤ) → (a +ℤ b) +ℤ (c +ℤ d) ≡ (a +ℤ c) +ℤ (b +ℤ d)
 exchanged a b c d =

@@ -13,7 +13,8 @@ use Rattle.definitions.specs.Arithmetic.{sumZ}
 use Rattle.definitions.specs.Book.{Book, price, quantity, purchase, sale}
 use Rattle.definitions.specs.Clearing.{value, welfare}
 use Rattle.laws.specs.IntegerSize.{fits-size, size-neg, size-product}
-use Rattle.welfare.specs.IntegerSum.{sum-ext, sum-difference, sum-size}
+use Rattle.laws.specs.Sum.{sumZ-ext}
+use Rattle.welfare.specs.IntegerSum.{sum-difference, sum-size}
 
 -- price × accepted of one bid: as it is for a purchase, negated for a sale
 abbrev pub signedValue : (price quantity : ℤ) (accepted : ℕ) → ℤ
@@ -31,7 +32,7 @@ pub welfare-by-bid : (B : Book) (accepted : ℕ → ℕ) → welfare B accepted 
 unfolding welfare
 welfare-by-bid B accepted =
     sum-difference (B .n) (λ i. cond (purchase B i) (value B accepted i) (pos 0)) (λ i. cond (sale B i) (value B accepted i) (pos 0))
-    ∙ sum-ext (B .n) (λ i. cond (purchase B i) (value B accepted i) (pos 0) -ℤ cond (sale B i) (value B accepted i) (pos 0)) (bidValue B accepted) (λ i l. one-side (purchase B i) (value B accepted i))
+    ∙ sumZ-ext (B .n) (λ i. cond (purchase B i) (value B accepted i) (pos 0) -ℤ cond (sale B i) (value B accepted i) (pos 0)) (bidValue B accepted) (λ i l. one-side (purchase B i) (value B accepted i))
 
 -- a bid's part
 pub value-size : (price quantity : ℤ) (accepted : ℕ) → natAbs price ≤ priceLimit → accepted ≤ quantityLimit → natAbs (signedValue price quantity accepted) ≤ priceLimit * quantityLimit

@@ -4,7 +4,8 @@ use mathlib.Core.Path.{_≡_, sym, ap}
 use native.Mathlib.Omega.{arith}
 use lib.ListN.{length}
 use Rattle.codec.specs.Groups.{at-most}
-use Rattle.codec.proofs.Places.{positive, groups-none, groups-last, groups-more}
+use Rattle.laws.specs.Tests.{positive}
+use Rattle.codec.proofs.Places.{groups-none, groups-last, groups-more}
 use borrow.Fn.Kinds.{In}
 use borrow.Fn.PlainCycle.{Measures, is, falls, and}
 use Rattle.codec.proofs.group_count.Reads as group-count

@@ -8,7 +8,8 @@ use native.Mathlib.Numerals.{add-one}
 use lib.ListN.{length, set, length-set}
 use lib.Seq.{sets}
 use Rattle.definitions.specs.Bytes.{groups}
-use Rattle.codec.proofs.Places.{positive, groups-none, groups-last, groups-more}
+use Rattle.laws.specs.Tests.{positive}
+use Rattle.codec.proofs.Places.{groups-none, groups-last, groups-more}
 use borrow.Fn.Kinds.{In}
 use borrow.Fn.PlainCycle.{Measures, is, falls, and}
 use Rattle.codec.proofs.put_groups.Reads as put-groups

@@ -12,7 +12,8 @@ use Rattle.codec.specs.declared.ReadGroups.{ReadGroups}
 use Rattle.codec.specs.declared.ReadGroups.the-variants.{Short, Bad, Number}
 use Rattle.codec.specs.Answer.{groupsAnswer}
 use Rattle.codec.specs.Groups.{Shortest, only-shortest}
-use Rattle.codec.proofs.Places.{positive, no-groups, no-bytes, a-byte, limit-small}
+use Rattle.laws.specs.Tests.{positive}
+use Rattle.codec.proofs.Places.{no-groups, no-bytes, a-byte, limit-small}
 use borrow.Fn.Kinds.{In}
 use borrow.Fn.PlainCycle.{Measures, is, falls, and}
 use Rattle.codec.proofs.read_groups.Reads as read-groups

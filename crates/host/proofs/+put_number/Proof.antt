@@ -9,6 +9,7 @@ use lib.Seq.{sets}
 use borrow.Fn.Kinds.{In}
 use borrow.Fn.PlainCycle.{Measures, is, falls, and}
 use Rattle.definitions.specs.Plan.{lowestFirst}
+use Rattle.laws.specs.Tests.{positive}
 use Rattle.host.proofs.put_number.Reads as put-number
 use Rattle.host.proofs.put_number.Kinds as put-number-kinds
 use Rattle.host.proofs.+put_number.Lts-put_number as put-number-lts
@@ -23,10 +24,6 @@ put-number-at t = and 1 put-number-kinds.ps (is 1 put-number-kinds.ps μ-put-num
 
 abbrev put-number-below : ℕ → In 1 put-number-kinds.ps
 put-number-below t = and 1 put-number-kinds.ps (falls 1 put-number-kinds.ps _<_ μ-put-number t) put-number.Pre
-
-positive : (k : ℕ) → (k ≡ 0 → ⊥) → 0 < k
-positive zero h = absurd (h refl)
-positive (suc k) h = omega arith
 
 no-bytes : (k v : ℕ) → k ≡ 0 → lowestFirst k v ≡ []
 unfolding lowestFirst

@@ -5,7 +5,8 @@ use mathlib.Core.List.{[], _∷_, _++_}
 use native.Mathlib.Omega.{arith}
 use lib.ListN.{length, length-set}
 use Rattle.definitions.specs.Settle.{decimalTo}
-use Rattle.listing.specs.Digits.{positive, no-digits, one-digit, more-digits}
+use Rattle.laws.specs.Tests.{positive}
+use Rattle.listing.specs.Digits.{no-digits, one-digit, more-digits}
 use Rattle.listing.specs.Put.{nothing, byte, then, same-bytes, same-room, room-first, room-second}
 use borrow.Fn.Kinds.{In}
 use borrow.Fn.PlainCycle.{Measures, is, falls, and}
