@@ -1,6 +1,6 @@
 -- Flows found line by line for used amounts within all cuts: they balance every pool, never ship both ways, and are the first in the lines' order.
 use mathlib.Core.Path.{_≡_, refl, sym, ap, ap₂, _∙_, subst}
-use mathlib.Core.Bool.{Bool, true, false, not, _&&_, _||_, cond, true≢false}
+use mathlib.Core.Bool.{Bool, true, false, not, _&&_, _||_, cond, true≢false, Bool·not-not}
 use mathlib.Core.Logic.{_⊎_, inl, inr}
 use Prim.Native.Nat.{ℕ, zero, suc, _+_, _-_, _≤_, _<_, _^_}
 use native.Mathlib.Nat.{add-zero, add-suc, eq-zero-or-pos}
@@ -234,36 +234,22 @@ module _ (N : Network) (ok : SoundNetwork N) (x : ℕ → ℕ) where
   balance-after c zero l = balance-first c
   balance-after c (suc k) l = balance-next k l (balance-after c k (omega arith))
 
--- at the end
-entering-leaving-one : (s t : Bool) (v : ℕ) → on (not s && t) v ≡ on (not s && not (not t)) v
-entering-leaving-one true true v = refl
-entering-leaving-one true false v = refl
-entering-leaving-one false true v = refl
-entering-leaving-one false false v = refl
-
+-- at the end: what enters a set leaves the others, and what leaves it enters them
 entering-leaving : (N : Network) (f : ℕ → ℕ) (S : ℕ → Bool) → entering N f S ≡ leaving N f (others S)
 unfolding entering leaving
-entering-leaving N f S = sum-ext _ _ _ (λ j l. entering-leaving-one (S (N .source j)) (S (N .target j)) (f j))
-
-leaving-entering-one : (s t : Bool) (v : ℕ) → on (s && not t) v ≡ on (not (not s) && not t) v
-leaving-entering-one true true v = refl
-leaving-entering-one true false v = refl
-leaving-entering-one false true v = refl
-leaving-entering-one false false v = refl
+entering-leaving N f S = sum-ext _ _ _ (λ j l. ap (λ (t : Bool). on (not (S (N .source j)) && t) (f j)) (sym (Bool·not-not (S (N .target j)))))
 
 leaving-entering : (N : Network) (f : ℕ → ℕ) (S : ℕ → Bool) → leaving N f S ≡ entering N f (others S)
 unfolding entering leaving
-leaving-entering N f S = sum-ext _ _ _ (λ j l. leaving-entering-one (S (N .source j)) (S (N .target j)) (f j))
+leaving-entering N f S = sum-ext _ _ _ (λ j l. ap (λ (s : Bool). on (s && not (S (N .target j))) (f j)) (sym (Bool·not-not (S (N .source j)))))
 
 amountIn-others : (N : Network) (x : ℕ → ℕ) (S : ℕ → Bool) → amountIn N x S + amountIn N x (others S) ≡ amountIn N x all
 unfolding amountIn
 amountIn-others N x S = sym (sum-add (N .bids) _ _) ∙ sum-ext _ _ _ (λ i l. on-not (S (N .pool i)) (x i))
 
 demand-others-one : (s t : Bool) (v : ℕ) → on (s && t) v + on (not s && t) v ≡ on (true && t) v
-demand-others-one true true v = omega arith
-demand-others-one true false v = omega arith
-demand-others-one false true v = omega arith
-demand-others-one false false v = omega arith
+demand-others-one true t v = omega arith
+demand-others-one false t v = omega arith
 
 demand-others : (N : Network) (S : ℕ → Bool) → demand N S + demand N (others S) ≡ demand N all
 unfolding demand

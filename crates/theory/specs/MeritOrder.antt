@@ -11,7 +11,7 @@ use Rattle.definitions.specs.Arithmetic.{on}
 use borrow.Author.Tests.{lt-ltb, le-ltb, eq-eqb, ltb-true, eqb-true}
 use Rattle.laws.specs.Tests.{is-false}
 use Rattle.theory.specs.StrictOrder.{StrictTotal}
-use Rattle.theory.specs.Choices.{iff}
+use Rattle.theory.specs.Choices.{on-le, iff}
 
 -- at equal price: sales before purchases, sales by lower number, purchases by higher number
 unfoldable pub tie : Bool → Bool → ℕ → ℕ → Bool
@@ -53,19 +53,18 @@ tie-transitive true false r i j k p q = absurd p
 tie-transitive true true false i j k p q = absurd q
 tie-transitive true true true i j k p q = omega arith
 
+-- of two numbers that differ one is the lesser
+apart : (i j : ℕ) → i ≢ j → (i < j) ⊎ (j < i)
+apart i j h = elim (decLt i j) [
+  | yes p ↦ inl p
+  | no p ↦ inr (omega arith)
+]
+
 tie-connected : (s t : Bool) (i j : ℕ) → i ≢ j → Tie s t i j ⊎ Tie t s j i
 tie-connected false true i j h = inl tt
 tie-connected true false i j h = inr tt
-tie-connected false false i j h = go (decLt i j)
-  where
-    go : Dec (i < j) → (i < j) ⊎ (j < i)
-    go (yes p) = inl p
-    go (no p) = inr (omega arith)
-tie-connected true true i j h = go (decLt i j)
-  where
-    go : Dec (i < j) → (j < i) ⊎ (i < j)
-    go (yes p) = inr p
-    go (no p) = inl (omega arith)
+tie-connected false false i j h = apart i j h
+tie-connected true true i j h = apart j i (λ e. h (sym e))
 
 tie-irreflexive : (s : Bool) (i : ℕ) → Tie s s i i → ⊥
 tie-irreflexive true i h = omega arith
@@ -78,14 +77,10 @@ or-split false false z e = absurd (true≢false (sym e))
 
 -- of a lower and of a higher bid number: one comparison of keys says the same (s and t: bids j and i are purchases)
 low-says : (s t : Bool) (p q j i : ℕ) → j < i → (p < q) ⊎ ((p ≡ q) × Tie s t j i) → 2 * p + on s 1 < 2 * q + 1
-low-says true true p q j i l (inl h) = omega arith
-low-says true true p q j i l (inr h) = omega (arith, h .0, h .1)
-low-says true false p q j i l (inl h) = omega arith
+low-says s t p q j i l (inl h) = omega (arith, on-le s 1)
+low-says true true p q j i l (inr h) = omega (arith, h .1)
 low-says true false p q j i l (inr h) = absurd (h .1)
-low-says false true p q j i l (inl h) = omega arith
-low-says false true p q j i l (inr h) = omega (arith, h .0)
-low-says false false p q j i l (inl h) = omega arith
-low-says false false p q j i l (inr h) = omega (arith, h .0, h .1)
+low-says false t p q j i l (inr h) = omega (arith, h .0)
 
 -- p ≤ q, and what more holds if they are equal
 settled : {A : Type 0} (p q : ℕ) → p ≤ q → (p ≡ q → A) → (p < q) ⊎ ((p ≡ q) × A)
@@ -96,26 +91,20 @@ settled p q h t = go (eq-or-lt-of-le h) t
     go (inr e) t = inl e
 
 says-low : (s t : Bool) (p q j i : ℕ) → j < i → 2 * p + on s 1 < 2 * q + 1 → (p < q) ⊎ ((p ≡ q) × Tie s t j i)
-says-low true true p q j i l h = settled p q (omega arith) (λ e. omega arith)
-says-low true false p q j i l h = settled p q (omega arith) (λ e. omega arith)
+says-low true t p q j i l h = inl (omega arith)
 says-low false true p q j i l h = settled p q (omega arith) (λ e. tt)
-says-low false false p q j i l h = settled p q (omega arith) (λ e. omega arith)
+says-low false false p q j i l h = settled p q (omega arith) (λ e. l)
 
 high-says : (s t : Bool) (p q j i : ℕ) → i < j → (p < q) ⊎ ((p ≡ q) × Tie s t j i) → 2 * p < 2 * q + on t 1
-high-says true true p q j i l (inl h) = omega arith
-high-says true true p q j i l (inr h) = omega (arith, h .0, h .1)
-high-says true false p q j i l (inl h) = omega arith
+high-says s t p q j i l (inl h) = omega arith
+high-says s true p q j i l (inr h) = omega (arith, h .0)
 high-says true false p q j i l (inr h) = absurd (h .1)
-high-says false true p q j i l (inl h) = omega arith
-high-says false true p q j i l (inr h) = omega (arith, h .0)
-high-says false false p q j i l (inl h) = omega arith
-high-says false false p q j i l (inr h) = omega (arith, h .0, h .1)
+high-says false false p q j i l (inr h) = omega (arith, h .1)
 
 says-high : (s t : Bool) (p q j i : ℕ) → i < j → 2 * p < 2 * q + on t 1 → (p < q) ⊎ ((p ≡ q) × Tie s t j i)
-says-high true true p q j i l h = settled p q (omega arith) (λ e. omega arith)
-says-high true false p q j i l h = settled p q (omega arith) (λ e. omega arith)
+says-high s false p q j i l h = inl (omega arith)
+says-high true true p q j i l h = settled p q (omega arith) (λ e. l)
 says-high false true p q j i l h = settled p q (omega arith) (λ e. tt)
-says-high false false p q j i l h = settled p q (omega arith) (λ e. omega arith)
 
 module _ (price : ℕ → ℕ) (purchase : ℕ → Bool) where
   abbrev Ahead : ℕ → ℕ → Type 0
