@@ -8,7 +8,7 @@ use Rattle.definitions.specs.Arithmetic.{on, sumTo}
 use Rattle.laws.specs.Sum.{sum-ext, sum-le, sum-add, sum-zero, sum-one, sum-swap}
 use Rattle.laws.specs.Tests.{Eq?, same, diff, eq?}
 use Rattle.theory.specs.Network.{goesOut, Network, SoundNetwork, demand, leaving, entering, cut, amountIn}
-use Rattle.theory.specs.Choices.{on-monotone, on-add, on-on, on-and, on-sum}
+use Rattle.theory.specs.Choices.{on-monotone, on-not, on-add, on-on, on-and, on-sum}
 
 -- the pool p alone, and the pools not in S
 abbrev pub only : ℕ → ℕ → Bool
@@ -47,10 +47,8 @@ feasible-same N x y f h c = record {
 
 -- lines inside S cancel
 net-one : (s t : Bool) (v : ℕ) → on t v + on (s && not t) v ≡ on s v + on (not s && t) v
-net-one true true v = omega arith
-net-one true false v = omega arith
-net-one false true v = omega arith
-net-one false false v = omega arith
+net-one true t v = omega (arith, on-not t v)
+net-one false t v = omega arith
 
 pub net : (N : Network) (f : ℕ → ℕ) (S : ℕ → Bool) → arriving N f S + leaving N f S ≡ departing N f S + entering N f S
 unfolding arriving departing leaving entering

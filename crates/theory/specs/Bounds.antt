@@ -29,18 +29,9 @@ slack-next N x given k l S =
     (rest-leaves N (given .ok) x k (slack-balance N x given k (omega arith)) l S) (flow-enters N (given .ok) x k (slack-balance N x given k (omega arith)) l S)
 
 cost-one : (s t x : Bool) (v : ℕ) → on (s && t) v + on (x && not s) v ≤ v
-cost-one true true x v = go x
-  where
-    go : (x : Bool) → v + on (x && false) v ≤ v
-    go true = omega arith
-    go false = omega arith
-cost-one true false x v = go x
-  where
-    go : (x : Bool) → 0 + on (x && false) v ≤ v
-    go true = omega arith
-    go false = omega arith
-cost-one false t true v = omega arith
-cost-one false t false v = omega arith
+cost-one true t true v = omega (arith, on-le t v)
+cost-one true t false v = omega (arith, on-le t v)
+cost-one false t x v = omega (arith, on-le (x && true) v)
 
 cost-bound : (N : Network) (B S : ℕ → Bool) → cost N B S ≤ sumTo (N .bids) (N .size) + sumTo (N .lines) (N .capacity)
 unfolding cost outside cut demand leaving

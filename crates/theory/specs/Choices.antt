@@ -25,10 +25,8 @@ on-add true v w = refl
 on-add false v w = refl
 
 pub on-on : (s t : Bool) (v : ℕ) → on s (on t v) ≡ on t (on s v)
-on-on true true v = refl
-on-on true false v = refl
-on-on false true v = refl
-on-on false false v = refl
+on-on true t v = refl
+on-on false t v = sym (on-zero t)
 
 pub on-and : (s t : Bool) (v : ℕ) → on (s && t) v ≡ on s (on t v)
 on-and true t v = refl

@@ -1,6 +1,6 @@
 -- The closed forms are a best and permitted clearing with the first flows, and its pool prices; none of their differences is cut off at 0, and every number is small.
 use mathlib.Core.Path.{_≡_, refl, sym, ap, ap₂, _∙_}
-use mathlib.Core.Bool.{Bool, true, false, not, _&&_, cond}
+use mathlib.Core.Bool.{Bool, true, false, not, _&&_, cond, and-comm}
 use Prim.Native.Nat.{ℕ, zero, suc, _+_, _*_, _-_, _≤_, _<_, _/_, _%_, _^_, min}
 use native.Mathlib.Omega.{arith}
 use native.Mathlib.Nat.{mul-le-mul-right}
@@ -51,30 +51,18 @@ min-start d (suc zero) f p h = omega arith
 min-start d (suc (suc k)) f p h = ap (λ (x : ℕ). min x (f (suc k))) (min-start d (suc k) f (omega arith) h)
 
 -- what comes off a slack, as a choice and as a sum
-taken-less : (s t : Bool) (y r f : ℕ) → y - cond (s && not t) r (on (t && not s) f) ≡ y - on (s && not t) r - on (not s && t) f
-taken-less true true y r f = omega arith
-taken-less true false y r f = omega arith
-taken-less false true y r f = omega arith
-taken-less false false y r f = omega arith
-
 taken-sum : (s t : Bool) (r f : ℕ) → cond (s && not t) r (on (t && not s) f) ≡ on (s && not t) r + on (not s && t) f
 taken-sum true true r f = refl
 taken-sum true false r f = omega arith
 taken-sum false true r f = omega arith
 taken-sum false false r f = refl
 
+taken-less : (s t : Bool) (y r f : ℕ) → y - cond (s && not t) r (on (t && not s) f) ≡ y - on (s && not t) r - on (not s && t) f
+taken-less s t y r f = omega (arith, taken-sum s t r f)
+
 sale-one : (s t u i : Bool) (v : ℕ) → i ≡ t → on t (on (u && s) v) ≡ on (s && (i && u)) v
-sale-one true true u i v e = rw e (go u)
-  where
-    go : (u : Bool) → on (u && true) v ≡ on u v
-    go true = refl
-    go false = refl
+sale-one s true u i v e = rw e (ap (λ (t : Bool). on t v) (and-comm u s))
 sale-one true false u i v e = rw e refl
-sale-one false true u i v e = go u
-  where
-    go : (u : Bool) → on (u && false) v ≡ 0
-    go true = refl
-    go false = refl
 sale-one false false u i v e = refl
 
 module _ (B : Book) (ok : Sound B) where

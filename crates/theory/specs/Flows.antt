@@ -150,10 +150,8 @@ abbrev pub SlackBalance : Network → (ℕ → ℕ) → ℕ → Type 0
 SlackBalance N x k = (S : ℕ → Bool) → slack N x k S + amountIn N x S + entering N (low N x k) S ≡ demand N S + leaving N (high N x k) S
 
 on-mod : (s r : Bool) (v : ℕ) → on (s || r) v + on (s && r) v ≡ on s v + on r v
-on-mod true true v = omega arith
-on-mod true false v = omega arith
-on-mod false true v = omega arith
-on-mod false false v = omega arith
+on-mod true r v = refl
+on-mod false r v = omega arith
 
 amountIn-modular : (N : Network) (x : ℕ → ℕ) (S R : ℕ → Bool) → amountIn N x (S ∪ R) + amountIn N x (S ∩ R) ≡ amountIn N x S + amountIn N x R
 unfolding amountIn

@@ -96,22 +96,16 @@ demand-modular N S R =
 lines-one : (s s' r r' : Bool) (low high : ℕ) → low ≤ high
     → on ((s || r) && not (s' || r')) high + on ((s && r) && not (s' && r')) high + on (not s && s') low + on (not r && r') low
     ≤ on (s && not s') high + on (r && not r') high + on (not (s || r) && (s' || r')) low + on (not (s && r) && (s' && r')) low
-lines-one true true true true low high h = omega arith
-lines-one true true true false low high h = omega arith
-lines-one true true false true low high h = omega arith
-lines-one true true false false low high h = omega arith
-lines-one true false true true low high h = omega arith
-lines-one true false true false low high h = omega arith
+lines-one true true true r' low high h = omega arith
+lines-one true false true r' low high h = omega arith
+lines-one true true false r' low high h = omega arith
 lines-one true false false true low high h = omega arith
 lines-one true false false false low high h = omega arith
 lines-one false true true true low high h = omega arith
 lines-one false true true false low high h = omega arith
-lines-one false true false true low high h = omega arith
-lines-one false true false false low high h = omega arith
-lines-one false false true true low high h = omega arith
-lines-one false false true false low high h = omega arith
-lines-one false false false true low high h = omega arith
-lines-one false false false false low high h = omega arith
+lines-one false false true r' low high h = omega arith
+lines-one false true false r' low high h = omega arith
+lines-one false false false r' low high h = omega arith
 
 module _ (N : Network) (low high : ℕ → ℕ) (S R : ℕ → Bool) where
   lower : ℕ → ℕ

@@ -1,6 +1,6 @@
 -- The rank of a set of bids, the most of it that can be used: a least over the sets of pools. It is submodular, so gains diminish.
 use mathlib.Core.Path.{_≡_, refl, sym, ap, ap₂, _∙_}
-use mathlib.Core.Bool.{Bool, true, false, not, _&&_, _||_}
+use mathlib.Core.Bool.{Bool, true, false, not, _&&_, _||_, or-comm}
 use Prim.Native.Nat.{ℕ, _+_, _≤_, _<_}
 use native.Mathlib.Nat.{le-antisymm}
 use native.Mathlib.Omega.{arith}
@@ -10,6 +10,7 @@ use Rattle.laws.specs.Sum.{sum-ext, sum-le, sum-add, sum-zero, sum-one}
 use Rattle.laws.specs.Tests.{Eq?, same, diff, eq?}
 use Rattle.theory.specs.Subsets.{LooksBelow, member, least, least-at, least-le}
 use Rattle.theory.specs.Network.{Network, SoundNetwork, demand, leaving, cut, amountIn, cut-ext, cut-submodular, _∪_, _∩_, _adding_}
+use Rattle.theory.specs.Choices.{on-le}
 
 -- the sum of v over the bids in B
 unfoldable pub total : Network → (ℕ → ℕ) → (ℕ → Bool) → ℕ
@@ -58,14 +59,9 @@ rank-ext N k A B h =
     le-antisymm (rank-monotone N k A B (λ i l e. sym (h i l) ∙ e)) (rank-monotone N k B A (λ i l e. h i l ∙ e))
 
 more-one : (x t s : Bool) (v : ℕ) → on ((x || t) && s) v ≤ on (x && s) v + on t v
-more-one true true true v = omega arith
-more-one true true false v = omega arith
-more-one true false true v = omega arith
-more-one true false false v = omega arith
-more-one false true true v = omega arith
-more-one false true false v = omega arith
-more-one false false true v = omega arith
-more-one false false false v = omega arith
+more-one true t s v = omega arith
+more-one false true s v = omega (arith, on-le s v)
+more-one false false s v = omega arith
 
 pub rank-one-more : (N : Network) → SoundNetwork N → (B : ℕ → Bool) (i : ℕ) → i < N .bids → rank N (B adding i) ≤ rank N B + N .size i
 unfolding cost outside
@@ -86,10 +82,8 @@ rank-none N k =
     omega (arith, a, sum-zero (N .bids), sum-zero (N .lines))
 
 demand-split : (s t : Bool) (v : ℕ) → on (true && t) v ≤ on (s && t) v + on (true && not s) v
-demand-split true true v = omega arith
-demand-split true false v = omega arith
-demand-split false true v = omega arith
-demand-split false false v = omega arith
+demand-split true t v = omega arith
+demand-split false t v = omega (arith, on-le t v)
 
 pub rank-all : (N : Network) → SoundNetwork N → rank N (λ i. true) ≡ demand N (λ p. true)
 unfolding cost outside cut demand leaving
@@ -106,8 +100,7 @@ rank-all N k =
 bound-one : (x s : Bool) (v u : ℕ) → v ≤ u → on x v ≤ on s v + on (x && not s) u
 bound-one true true v u h = omega arith
 bound-one true false v u h = omega arith
-bound-one false true v u h = omega arith
-bound-one false false v u h = omega arith
+bound-one false s v u h = omega arith
 
 pub rank-bound : (N : Network) (y : ℕ → ℕ) → ((i : ℕ) → i < N .bids → y i ≤ N .size i) → ((s : ℕ) → amountIn N y (member s) ≤ cut N (member s))
     → (B : ℕ → Bool) → total N y B ≤ rank N B
@@ -125,22 +118,13 @@ rank-bound N y h c B =
 
 -- submodular
 submodular-one : (x y s r : Bool) (v : ℕ) → on ((x || y) && not (s || r)) v + on ((x && y) && not (s && r)) v ≤ on (x && not s) v + on (y && not r) v
-submodular-one true true true true v = omega arith
-submodular-one true true true false v = omega arith
-submodular-one true true false true v = omega arith
-submodular-one true true false false v = omega arith
-submodular-one true false true true v = omega arith
-submodular-one true false true false v = omega arith
-submodular-one true false false true v = omega arith
-submodular-one true false false false v = omega arith
-submodular-one false true true true v = omega arith
-submodular-one false true true false v = omega arith
-submodular-one false true false true v = omega arith
-submodular-one false true false false v = omega arith
-submodular-one false false true true v = omega arith
-submodular-one false false true false v = omega arith
-submodular-one false false false true v = omega arith
-submodular-one false false false false v = omega arith
+submodular-one true true true r v = omega arith
+submodular-one true true false r v = omega arith
+submodular-one true false true r v = omega arith
+submodular-one true false false r v = omega (arith, on-le (not r) v)
+submodular-one false true true r v = omega arith
+submodular-one false true false r v = omega arith
+submodular-one false false s r v = omega arith
 
 outside-submodular : (N : Network) (A B S R : ℕ → Bool) → outside N (A ∪ B) (S ∪ R) + outside N (A ∩ B) (S ∩ R) ≤ outside N A S + outside N B R
 unfolding outside
@@ -164,10 +148,7 @@ rank-submodular N k A B =
 -- gains diminish
 diminish-or : (x y t : Bool) → (x ≡ true → y ≡ true) → ((x || t) || y) ≡ (y || t)
 diminish-or true y t h = sym (ap (λ (z : Bool). z || t) (h refl))
-diminish-or false true true h = refl
-diminish-or false true false h = refl
-diminish-or false false true h = refl
-diminish-or false false false h = refl
+diminish-or false y t h = or-comm t y
 
 diminish-and : (x y : Bool) (j i : ℕ) {t : Bool} → Eq? j i t → (x ≡ true → y ≡ true) → (j ≡ i → y ≡ false) → ((x || t) && y) ≡ x
 diminish-and true y j i e h q = h refl

@@ -118,8 +118,7 @@ pub record FeasibleAmounts (N : Network) (a f : ℕ → ℕ) : Type 0 where
 turn-one : (s t : Bool) (a u : ℕ) → a ≤ u → on s (cond t (u - a) a) + on (s && t) a ≡ on (s && not t) a + on (s && t) u
 turn-one true true a u h = omega arith
 turn-one true false a u h = omega arith
-turn-one false true a u h = omega arith
-turn-one false false a u h = omega arith
+turn-one false t a u h = refl
 
 turn-amountIn : (N : Network) (a : ℕ → ℕ) → ((i : ℕ) → i < N .bids → a i ≤ N .size i) → (S : ℕ → Bool) → amountIn N (turn N a) S + boughtIn N a S ≡ soldIn N a S + demand N S
 unfolding turn amountIn boughtIn soldIn demand
