@@ -35,9 +35,9 @@ fn run_plan(n: usize, m: usize, sheet: &mut [u32]) -> usize
     ensures count { λ r. ⌜ r ≡ length (plan n m) ⌝ }
     ensures cells { λ _. ⌜ now (sheet .exit) ≡ runOf (plan n m) (now (sheet .entry)) ⌝ }
 {
-    let starts = orders::starts_of(n, m);
-    let columns = orders::columns_of(m);
-    let total = orders::plan_length(n, m);
+    let starts = layout::starts_of(n, m);
+    let columns = layout::columns_of(m);
+    let total = layout::plan_length(n, m);
     let mut at = 0;
     while at < total {
         let order = orders::order_in(n, m, &starts, &columns, at);

@@ -1,4 +1,3 @@
--- What the code of the orders cites: digits, the plan's tree walked by position and the layout's tables.
+-- What the code of the orders cites: digits, and the plan's tree walked by position.
 pub mod Digits
 pub mod Walk
-pub mod Layouts

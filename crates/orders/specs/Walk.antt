@@ -1,11 +1,11 @@
--- What a function of the code needs to know of the plan's tree, of its families, of its length and of powers of 2.
+-- What a function of the code needs to know of the plan's tree, of its families and of powers of 2.
 use mathlib.Core.Path.{_≡_, refl, sym, ap, subst, _∙_}
 use mathlib.Core.Logic.{_≢_}
 use mathlib.Core.Bool.{Bool, true, false, cond}
 use mathlib.Core.List.{List, _∷_}
 use Prim.Native.Nat.{ℕ, zero, suc, _+_, _-_, _*_, _%_, _/_, _^_, _≤_, _<_}
 use native.Mathlib.Omega.{arith}
-use native.Mathlib.Nat.{mul-le-mul-right, mod-lt}
+use native.Mathlib.Nat.{mod-lt}
 use lib.ListN.{length, getD}
 use lib.Dec.{eqb}
 use borrow.Author.Tests.{lt-ltb, le-ltb, eq-eqb, ne-eqb}
@@ -13,11 +13,6 @@ use lib.Arith.{digits-lt}
 use Rattle.definitions.specs.declared.Order.{Order}
 use Rattle.definitions.specs.declared.Order.the-variants as unit
 use Rattle.definitions.specs.Limits.{bidLimit, poolLimit, cellCount}
-use Rattle.definitions.specs.Arithmetic.{sumTo}
-use Rattle.definitions.specs.Answers.{Refusal, none, refuse, unless}
-use Rattle.definitions.specs.Calls.{countsRefusal}
-use Rattle.definitions.specs.Plan.{total}
-use Rattle.laws.specs.Sizes.{Counts, counted}
 use Rattle.orders.specs.declared.names.CellName.{CellName}
 use Rattle.orders.specs.declared.names.NamedOrder.{NamedOrder}
 use Rattle.orders.specs.declared.names.NamedOrder.the-variants as made
@@ -29,26 +24,13 @@ use Rattle.plan.specs.Blocks.{testAt, testOrder, cutTurn, restCell, restTurn, t
 use Rattle.plan.specs.Names.{temporaries, Blank, Temporary, Capacity, Cut, Slack, Subset, familyCount, rowsOf, columnsOf}
 use Rattle.plan.specs.Work.{rankSize, bidTree, cutsTree, rankTrees, flowTree, priceTree, work}
 use Rattle.plan.specs.Proper.{Valid, Proper, work-proper, work-fair}
-use Rattle.plan.specs.Layout.{base-grows}
-use Rattle.plan.specs.Plan.{from, from-scratch, from-end, names-fit, cellOf, planLength, plan, plan-length, plan-entry, workLength, workAt, orderAt, work-size}
+use Rattle.plan.specs.Plan.{from, from-scratch, names-fit, cellOf, plan, plan-length, plan-entry, workLength, workAt, orderAt, work-size}
+use Rattle.layout.specs.Tables.{from-next, from-small, IsLayout}
 
--- ---- powers of 2, products of counts
+-- ---- powers of 2
 
 pub power-at : (m k : ℕ) → m ≡ k → 2 ^ k ≡ 2 ^ m
 power-at m k e = ap (λ (x : ℕ). 2 ^ x) (sym e)
-
-pub product-small : (a b x y : ℕ) → a ≤ x → b ≤ y → a * b ≤ x * y
-product-small a b x y h k = omega (arith, mul-le-mul-right b h, mul-le-mul-right x k)
-
--- ---- where the families begin
-
-pub from-next : (n m u : ℕ) → from n m (suc u) ≡ from n m u + rowsOf n m u * columnsOf n m u
-unfolding from sumTo
-from-next n m u = refl
-
-pub from-small : (n m u : ℕ) → n ≤ bidLimit → m ≤ poolLimit → u ≤ familyCount → from n m u ≤ cellCount
-unfolding from
-from-small n m u h k l = omega (arith, base-grows (rowsOf n m) (columnsOf n m) u familyCount l, from-end n m, names-fit n m h k)
 
 -- a family's table ends on the sheet
 pub table-fits : (n m u : ℕ) → n ≤ bidLimit → m ≤ poolLimit → u < familyCount → from n m u + rowsOf n m u * columnsOf n m u ≤ cellCount
@@ -195,52 +177,6 @@ ranks-count n m s e = rw e (omega arith)
 pub flow-count : (n m s : ℕ) → s ≡ 2 ^ m → m * (1 + n * 2) + s * 2 + m * m * (2 + s * 5) ≡ size (flowTree n m)
 flow-count n m s e = rw e (omega arith)
 
--- the products of the plan's length are small, for counts within their limits and s the count of sets
-abbrev pub LengthsFit : (n m s : ℕ) → Type 0
-LengthsFit n m s = (m * m ≤ 16) × (n * n ≤ 4096) × (n * n * (1 + 2 * m) ≤ 36864) × (n * (29 + 17 * m + 12 * s) ≤ 18496) × (s * (7 + 6 * (m * m)) ≤ 1648)
-
-pub lengths-fit : (n m s : ℕ) → n ≤ bidLimit → m ≤ poolLimit → s ≤ 16 → LengthsFit n m s
-lengths-fit n m s h k l =
-    let lines : m * m ≤ 16 = product-small m m 4 4 k k in
-    let pairs : n * n ≤ 4096 = product-small n n 64 64 h h in (
-      lines,
-      pairs,
-      product-small (n * n) (1 + 2 * m) 4096 9 pairs (omega arith),
-      product-small n (29 + 17 * m + 12 * s) 64 289 h (omega arith),
-      product-small s (7 + 6 * (m * m)) 16 103 l (omega arith),
-    )
-
-pub plan-count : (n m s : ℕ) → 0 < m → s ≡ 2 ^ m → n * n * (1 + 2 * m) + n * (29 + 17 * m + 12 * s) + (8 + 11 * m + 2 * (m * m) + s * (7 + 6 * (m * m))) ≡ length (plan n m)
-unfolding planLength
-plan-count n m s p e = rw e (sym (plan-length n m p))
-
-power-small : (m : ℕ) → m ≤ poolLimit → 2 ^ m ≤ 16
-power-small zero h = omega arith
-power-small (suc zero) h = omega arith
-power-small (suc (suc zero)) h = omega arith
-power-small (suc (suc (suc zero))) h = omega arith
-power-small (suc (suc (suc (suc m)))) h =
-    let e : m ≡ 0 = omega arith in
-    rw e (omega arith)
-
-length-small : (n m : ℕ) → Counts n m → length (plan n m) ≤ 60000
-length-small n m c =
-    omega (
-      arith,
-      lengths-fit n m (2 ^ m) (c .bids) (c .pools .most) (power-small m (c .pools .most)),
-      plan-count n m (2 ^ m) (c .pools .least) refl,
-      c .pools .most,
-    )
-
--- each position before the total has a next one
-pub total-small : (n m : ℕ) → total plan n m ≤ 60000
-unfolding total
-total-small n m = go (countsRefusal n m) refl
-  where
-    go : (r : Refusal) → countsRefusal n m ≡ r → unless r (length (plan n m)) 0 ≤ 60000
-    go none e = length-small n m (counted n m e)
-    go (refuse k x) e = omega arith
-
 pub work-count : (n m a b c d e : ℕ) → a ≡ size (bidTree n m) → b ≡ size (cutsTree n m) → c ≡ size (rankTrees n m) → d ≡ size (flowTree n m) → e ≡ size (priceTree n m)
     → a + (b + (c + (d + e))) ≡ workLength n m
 unfolding workLength
@@ -269,6 +205,17 @@ cell-within n m t i j s w h k v e f =
 pub cell-is : (n m t i j s w : ℕ) → s ≡ from n m t → w ≡ columnsOf n m t → s + (i * w + j) ≡ cellOf n m (at t i j)
 unfolding from
 cell-is n m t i j s w e f = rw (e, f)
+
+-- a name's cell by the two tables, and that it is on the sheet
+pub record CellBy (n m t i j : ℕ) (starts columns : List ℕ) : Type 0 where
+  pub is-cell : getD starts t 0 + (i * getD columns t 0 + j) ≡ cellOf n m (at t i j)
+  pub on-sheet : getD starts t 0 + (i * getD columns t 0 + j) < cellCount
+
+pub cell-by : (n m t i j : ℕ) (starts columns : List ℕ) → n ≤ bidLimit → m ≤ poolLimit → IsLayout n m starts columns → Valid n m (at t i j) → CellBy n m t i j starts columns
+cell-by n m t i j starts columns h k layout v =
+    let begin : getD starts t 0 ≡ from n m t = layout .begin t (v .0) in
+    let width : getD columns t 0 ≡ columnsOf n m t = ap (λ (l : List ℕ). getD l t 0) (layout .columns-are) in
+    record { is-cell = cell-is n m t i j _ _ begin width; on-sheet = cell-within n m t i j _ _ h k v begin width }
 
 module _ (n m : ℕ) where
   unfoldable pub numberedOf : NamedOrder → Order

@@ -6,12 +6,12 @@ ghost use Rattle.plan.specs.Running.{lowered, raised, subsetBlock};
 ghost use Rattle.plan.specs.Blocks.{sizeBlock, demandTurn, cutTurn, testOrder, gain, costTurn, amountBlock, placementTurn, restTurn, takeTurn, offerBlock, peakTurn, priceBlock};
 ghost use Rattle.orders.specs.Walk.{nameOf, namedOf, named};
 use crate::names::CellName;
-use crate::names::Family;
 use crate::names::Kind;
 use crate::names::NamedOrder;
 use crate::sets::is_leaving;
 use crate::sets::other_pools;
 use crate::sets::subset_count;
+use layout::Family;
 
 // The size of bid i.
 pub fn size_order(i: usize, r: usize) -> NamedOrder

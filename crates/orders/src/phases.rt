@@ -20,12 +20,12 @@ use crate::blocks::subset_order;
 use crate::blocks::take_turn;
 use crate::blocks::test_order;
 use crate::names::CellName;
-use crate::names::Family;
 use crate::names::Kind;
 use crate::names::NamedOrder;
 use crate::sets::lowest_pool;
 use crate::sets::subset_count;
 use definitions::Limits;
+use layout::Family;
 
 // The constants, and each bid's own numbers.
 pub fn bid_order(n: usize, m: usize, x: usize) -> NamedOrder

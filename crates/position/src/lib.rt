@@ -42,7 +42,7 @@ impl Position {
         if !is_accepted(counts) {
             return counts;
         }
-        if orders::plan_length(n, m) < at {
+        if layout::plan_length(n, m) < at {
             return Verdict::Position;
         }
         Verdict::Accepted
@@ -60,9 +60,9 @@ impl Position {
         let n = self.n;
         let m = self.m;
         let at = self.at;
-        if at < orders::plan_length(n, m) {
-            let starts = orders::starts_of(n, m);
-            let columns = orders::columns_of(m);
+        if at < layout::plan_length(n, m) {
+            let starts = layout::starts_of(n, m);
+            let columns = layout::columns_of(m);
             let order = orders::order_in(n, m, &starts, &columns, at);
             return Asked::Order(order, Position { n, m, at: at + 1 });
         }
@@ -85,7 +85,7 @@ impl Plan {
     {
         Total {
             verdict: judge_counts(n, m),
-            orders: orders::plan_length(n, m),
+            orders: layout::plan_length(n, m),
         }
     }
 }

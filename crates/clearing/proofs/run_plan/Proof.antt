@@ -10,7 +10,7 @@ use Rattle.laws.specs.Sizes.{counted}
 use Rattle.plan.specs.Plan.{plan}
 use Rattle.plan.specs.List.{plan-well-formed}
 use Rattle.plan.specs.Asking.{total-accepted}
-use Rattle.orders.specs.Walk.{total-small}
+use Rattle.layout.specs.Lengths.{total-small}
 use Rattle.clearing.proofs.Running.{Running, begins, goes-on, ends}
 use Rattle.clearing.proofs.run_plan.Statement.{statement}
 use Rattle.clearing.proofs.run_plan.Tie as tie

@@ -3,7 +3,8 @@ use mathlib.Core.Path.{refl, ap, _∙_}
 use Prim.Native.Nat.{ℕ, _+_, _*_}
 use Rattle.plan.specs.Names.{Demand}
 use native.Mathlib.Omega.{arith}
-use Rattle.orders.specs.Walk.{product-small, subset-lowest, at-left, at-right, at-rep, at-single, at-grid, at-place}
+use Rattle.layout.specs.Lengths.{product-small}
+use Rattle.orders.specs.Walk.{subset-lowest, at-left, at-right, at-rep, at-single, at-grid, at-place}
 use borrow.Author.Needs.{needs}
 use Rattle.orders.proofs.phases.cuts_order.Statement.{statement}
 use Rattle.orders.proofs.phases.cuts_order.Tie as tie

@@ -1,7 +1,8 @@
 -- `flow_order` meets its contract: each return is the tree's order at its place.
 use Prim.Native.Nat.{_+_, _*_}
 use native.Mathlib.Omega.{arith}
-use Rattle.orders.specs.Walk.{product-small, at-left, at-right, at-rep}
+use Rattle.layout.specs.Lengths.{product-small}
+use Rattle.orders.specs.Walk.{at-left, at-right, at-rep}
 use borrow.Author.Needs.{needs}
 use Rattle.orders.proofs.phases.flow_order.Statement.{statement}
 use Rattle.orders.proofs.phases.flow_order.Tie as tie

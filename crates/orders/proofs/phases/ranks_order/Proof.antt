@@ -2,7 +2,8 @@
 use mathlib.Core.Path.{refl}
 use Prim.Native.Nat.{_+_, _*_}
 use native.Mathlib.Omega.{arith}
-use Rattle.orders.specs.Walk.{product-small, rank-total, rank-within, at-left, at-right, at-rep, at-blocks, at-single, at-grid, at-place}
+use Rattle.layout.specs.Lengths.{product-small}
+use Rattle.orders.specs.Walk.{rank-total, rank-within, at-left, at-right, at-rep, at-blocks, at-single, at-grid, at-place}
 use borrow.Author.Needs.{needs}
 use Rattle.orders.proofs.phases.ranks_order.Statement.{statement}
 use Rattle.orders.proofs.phases.ranks_order.Tie as tie

@@ -1,7 +1,8 @@
 -- `cuts_length` meets its contract: the parts add up to the size.
 use Prim.Native.Nat.{_+_, _*_}
 use native.Mathlib.Omega.{arith}
-use Rattle.orders.specs.Walk.{product-small, cuts-count}
+use Rattle.layout.specs.Lengths.{product-small}
+use Rattle.orders.specs.Walk.{cuts-count}
 use borrow.Author.Needs.{needs}
 use Rattle.orders.proofs.work.cuts_length.Statement.{statement}
 use Rattle.orders.proofs.work.cuts_length.Tie as tie

@@ -1,7 +1,8 @@
 -- `flow_length` meets its contract: the parts add up to the size.
 use Prim.Native.Nat.{_+_, _*_}
 use native.Mathlib.Omega.{arith}
-use Rattle.orders.specs.Walk.{product-small, flow-count}
+use Rattle.layout.specs.Lengths.{product-small}
+use Rattle.orders.specs.Walk.{flow-count}
 use borrow.Author.Needs.{needs}
 use Rattle.orders.proofs.work.flow_length.Statement.{statement}
 use Rattle.orders.proofs.work.flow_length.Tie as tie

@@ -1,7 +1,7 @@
 -- `prices_length` meets its contract: the parts add up to the size.
 use Prim.Native.Nat.{_+_, _*_}
 use native.Mathlib.Omega.{arith}
-use Rattle.orders.specs.Walk.{product-small}
+use Rattle.layout.specs.Lengths.{product-small}
 use borrow.Author.Needs.{needs}
 use Rattle.orders.proofs.work.prices_length.Statement.{statement}
 use Rattle.orders.proofs.work.prices_length.Tie as tie

@@ -8,7 +8,7 @@ use Rattle.definitions.specs.Answers.{none}
 use Rattle.definitions.specs.Plan.{order, refused, askRefusal, total}
 use Rattle.laws.specs.Search.{turned-away, let-through}
 use Rattle.plan.specs.Plan.{plan}
-use Rattle.orders.specs.Walk.{total-small}
+use Rattle.layout.specs.Lengths.{total-small}
 use Rattle.position.proofs.Answers.{asked-refused, counts-passed, before-end, asked-before-total, asked-from-total}
 use Rattle.position.proofs.Position.ask.Statement.{statement}
 use Rattle.position.proofs.Position.ask.Tie as tie

@@ -7,11 +7,11 @@ use native.Mathlib.Omega.{arith}
 use borrow.Author.Needs.{needs}
 use Rattle.plan.specs.Names.{familyCount}
 use Rattle.plan.specs.Plan.{from}
-use Rattle.orders.specs.Layouts.{StartsTo, first-start, one-more-start, next-start, next-on-sheet}
+use Rattle.layout.specs.Tables.{StartsTo, first-start, one-more-start, next-start, next-on-sheet}
 use Rattle.laws.specs.Sizes.{counted}
 use Rattle.definitions.specs.Limits.{cellCount}
-use Rattle.orders.proofs.layout.starts_of.Statement.{statement}
-use Rattle.orders.proofs.layout.starts_of.Tie as tie
+use Rattle.layout.proofs.starts_of.Statement.{statement}
+use Rattle.layout.proofs.starts_of.Tie as tie
 
 abbrev Inv-loop : tie.InvT-loop
 Inv-loop n m rows columns starts₀ start₀ t₀ starts start t = StartsTo n m t starts × (start ≡ from n m t) × (t ≤ familyCount) × (length starts ≡ familyCount)

@@ -1,21 +1,87 @@
-// From names to cells.
+// What follows from n and m alone, before any order is made: how many orders the plan has, and where each family of cells stands on the sheet.
 ghost use mathlib.Core.Path.{_≡_};
-ghost use Prim.Native.Nat.{_*_, _^_, _≤_};
+ghost use Prim.Native.Nat.{_*_, _^_, _<_, _≤_};
+ghost use lib.ListN.{length};
 ghost use Rattle.definitions.specs.Limits.{bidLimit, poolLimit};
 ghost use Rattle.definitions.specs.Answers.{none};
 ghost use Rattle.definitions.specs.Calls.{countsRefusal};
+ghost use Rattle.definitions.specs.Plan.{total};
 ghost use Rattle.plan.specs.Names.{rowTable, columnTable};
-ghost use Rattle.plan.specs.Plan.{cellOf};
-ghost use Rattle.plan.specs.Proper.{Proper, Valid};
-ghost use Rattle.orders.specs.Layouts.{AreStarts, IsLayout};
-ghost use Rattle.orders.specs.Walk.{nameOf, namedOf, numberedOf};
-use crate::names::CellName;
-use crate::names::Family;
-use crate::names::Kind;
-use crate::names::NamedOrder;
-use crate::sets::subset_count;
+ghost use Rattle.plan.specs.Plan.{plan};
+ghost use Rattle.layout.specs.Tables.{AreStarts};
 use definitions::Limits;
-use definitions::Order;
+use definitions::is_accepted;
+use judging::judge_counts;
+
+// The families of cells, in their order on the sheet.
+pub struct Family {}
+
+impl Family {
+    pub const BIDS: usize = 0;
+
+    pub const CAPACITIES: usize = 1;
+
+    pub const AMOUNTS: usize = 2;
+
+    pub const FLOWS: usize = 3;
+
+    pub const PRICES: usize = 4;
+
+    pub const TEMPORARIES: usize = 5;
+
+    pub const BLANKS: usize = 6;
+
+    pub const UNITS: usize = 7;
+
+    pub const SHIFTS: usize = 8;
+
+    pub const POOL_NUMBERS: usize = 9;
+
+    pub const SIDES: usize = 10;
+
+    pub const SIZES: usize = 11;
+
+    pub const RATES: usize = 12;
+
+    pub const DOUBLES: usize = 13;
+
+    pub const KEYS: usize = 14;
+
+    pub const NEXTS: usize = 15;
+
+    pub const PLACES: usize = 16;
+
+    pub const WEIGHTS: usize = 17;
+
+    pub const DEMANDS: usize = 18;
+
+    pub const SUBSETS: usize = 19;
+
+    pub const CUTS: usize = 20;
+
+    pub const AHEADS: usize = 21;
+
+    pub const LOWS: usize = 22;
+
+    pub const REACHES: usize = 23;
+
+    pub const HIGHS: usize = 24;
+
+    pub const USES: usize = 25;
+
+    pub const PLACEMENTS: usize = 26;
+
+    pub const SLACKS: usize = 27;
+
+    pub const OFFERS: usize = 28;
+
+    pub const PEAKS: usize = 29;
+
+    pub const COUNT: usize = 30;
+}
+
+// 2 to the m, for each count of pools.
+const SUBSETS: [usize; 5] = [1, 2, 4, 8, 16];
 
 // How many columns each family has, in the families' order.
 pub fn columns_of(m: usize) -> [usize; Family::COUNT]
@@ -61,7 +127,7 @@ fn rows_of(n: usize, m: usize) -> [usize; Family::COUNT]
     ensures { λ r. ⌜ r ≡ rowTable n m (m * m) (2 ^ m) ⌝ }
 {
     let lines = m * m;
-    let sets = subset_count(m);
+    let sets = SUBSETS[m];
     [
         n, // bids
         m, // capacities
@@ -114,62 +180,26 @@ pub fn starts_of(n: usize, m: usize) -> [usize; Family::COUNT]
     starts
 }
 
-// The cell of a name.
-fn cell_of(
-    n: usize,
-    m: usize,
-    starts: &[usize; Family::COUNT],
-    columns: &[usize; Family::COUNT],
-    c: CellName,
-) -> usize
+// How many orders the plan has, for counts within their limits.
+fn length_within(n: usize, m: usize) -> usize
     requires { ⌜ n ≤ bidLimit ⌝ }
     requires { ⌜ m ≤ poolLimit ⌝ }
-    requires { ⌜ IsLayout n m (now starts) (now columns) ⌝ }
-    requires { ⌜ Valid n m (nameOf c) ⌝ }
-    ensures { λ r. ⌜ r ≡ cellOf n m (nameOf c) ⌝ }
+    requires { ⌜ 0 < m ⌝ }
+    ensures { λ r. ⌜ r ≡ length (plan n m) ⌝ }
 {
-    let t = c.0;
-    let row = c.1;
-    let column = c.2;
-    starts[t] + (row * columns[t] + column)
+    let sets = SUBSETS[m];
+    let lines = m * m;
+    n * n * (1 + 2 * m)
+        + n * (29 + 17 * m + 12 * sets)
+        + (8 + 11 * m + 2 * lines + sets * (7 + 6 * lines))
 }
 
-// An order with each name replaced by its cell.
-pub fn numbered_order(
-    n: usize,
-    m: usize,
-    starts: &[usize; Family::COUNT],
-    columns: &[usize; Family::COUNT],
-    o: NamedOrder,
-) -> Order
-    requires { ⌜ n ≤ bidLimit ⌝ }
-    requires { ⌜ m ≤ poolLimit ⌝ }
-    requires { ⌜ IsLayout n m (now starts) (now columns) ⌝ }
-    requires { ⌜ Proper n m (namedOf o) ⌝ }
-    ensures { λ r. ⌜ r ≡ numberedOf n m o ⌝ }
+// How many orders the plan has; none for refused counts.
+pub fn plan_length(n: usize, m: usize) -> usize
+    ensures { λ r. ⌜ r ≡ total plan n m ⌝ }
 {
-    match o {
-        NamedOrder::Constant(d, k) => Order::Constant {
-            d: cell_of(n, m, starts, columns, d),
-            k,
-        },
-        NamedOrder::Operate(kind, d, a, b) => {
-            let x = cell_of(n, m, starts, columns, d);
-            let y = cell_of(n, m, starts, columns, a);
-            let z = cell_of(n, m, starts, columns, b);
-            if kind < Kind::DIFFERENCE {
-                return Order::Sum { d: x, a: y, b: z };
-            }
-            if kind == Kind::DIFFERENCE {
-                return Order::Difference { d: x, a: y, b: z };
-            }
-            if kind == Kind::PRODUCT {
-                return Order::Product { d: x, a: y, b: z };
-            }
-            if kind == Kind::LESS {
-                return Order::Less { d: x, a: y, b: z };
-            }
-            Order::Equal { d: x, a: y, b: z }
-        }
+    if !is_accepted(judge_counts(n, m)) {
+        return 0;
     }
+    length_within(n, m)
 }

@@ -10,11 +10,17 @@ use lib.ListN.{length, getD, set}
 use lib.Seq.{getD-set-same, getD-set-other}
 use Rattle.definitions.specs.Arithmetic.{sumTo}
 use Rattle.definitions.specs.Limits.{bidLimit, poolLimit, cellCount}
-use Rattle.plan.specs.Orders.{at}
-use Rattle.plan.specs.Names.{familyCount, rowTable, columnTable, columnsOf}
-use Rattle.plan.specs.Plan.{from, cellOf}
-use Rattle.plan.specs.Proper.{Valid}
-use Rattle.orders.specs.Walk.{from-next, from-small, cell-within, cell-is}
+use Rattle.plan.specs.Names.{familyCount, rowTable, columnTable, rowsOf, columnsOf}
+use Rattle.plan.specs.Layout.{base-grows}
+use Rattle.plan.specs.Plan.{from, from-end, names-fit}
+
+pub from-next : (n m u : ℕ) → from n m (suc u) ≡ from n m u + rowsOf n m u * columnsOf n m u
+unfolding from sumTo
+from-next n m u = refl
+
+pub from-small : (n m u : ℕ) → n ≤ bidLimit → m ≤ poolLimit → u ≤ familyCount → from n m u ≤ cellCount
+unfolding from
+from-small n m u h k l = omega (arith, base-grows (rowsOf n m) (columnsOf n m) u familyCount l, from-end n m, names-fit n m h k)
 
 -- the first k entries are where the first k families begin
 abbrev pub StartsTo : (n m k : ℕ) → List ℕ → Type 0
@@ -26,17 +32,6 @@ AreStarts n m starts = StartsTo n m familyCount starts
 pub record IsLayout (n m : ℕ) (starts columns : List ℕ) : Type 0 where
   pub begin : AreStarts n m starts
   pub columns-are : columns ≡ columnTable m
-
--- a name's cell by the two tables, and that it is on the sheet
-pub record CellBy (n m t i j : ℕ) (starts columns : List ℕ) : Type 0 where
-  pub is-cell : getD starts t 0 + (i * getD columns t 0 + j) ≡ cellOf n m (at t i j)
-  pub on-sheet : getD starts t 0 + (i * getD columns t 0 + j) < cellCount
-
-pub cell-by : (n m t i j : ℕ) (starts columns : List ℕ) → n ≤ bidLimit → m ≤ poolLimit → IsLayout n m starts columns → Valid n m (at t i j) → CellBy n m t i j starts columns
-cell-by n m t i j starts columns h k layout v =
-    let begin : getD starts t 0 ≡ from n m t = layout .begin t (v .0) in
-    let width : getD columns t 0 ≡ columnsOf n m t = ap (λ (l : List ℕ). getD l t 0) (layout .columns-are) in
-    record { is-cell = cell-is n m t i j _ _ begin width; on-sheet = cell-within n m t i j _ _ h k v begin width }
 
 -- the first family begins at cell 0
 pub first-start : (n m : ℕ) → 0 ≡ from n m 0

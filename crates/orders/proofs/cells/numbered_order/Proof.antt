@@ -2,8 +2,8 @@
 use native.Mathlib.Omega.{arith}
 use Rattle.orders.specs.Walk.{constant-cells, operate-cells, constant-numbered, operate-numbered, kind-sum, kind-at, kind-equal}
 use borrow.Author.Needs.{needs}
-use Rattle.orders.proofs.layout.numbered_order.Statement.{statement}
-use Rattle.orders.proofs.layout.numbered_order.Tie as tie
+use Rattle.orders.proofs.cells.numbered_order.Statement.{statement}
+use Rattle.orders.proofs.cells.numbered_order.Tie as tie
 
 enum-known-o : tie.Need-enum-known-o
 enum-known-o c = search needs

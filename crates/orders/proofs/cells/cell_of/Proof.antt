@@ -1,9 +1,9 @@
 -- `cell_of` meets its contract: the cell is the name's, and lies on the sheet.
 use native.Mathlib.Omega.{arith}
-use Rattle.orders.specs.Layouts.{CellBy, cell-by}
+use Rattle.orders.specs.Walk.{CellBy, cell-by}
 use borrow.Author.Needs.{needs}
-use Rattle.orders.proofs.layout.cell_of.Statement.{statement}
-use Rattle.orders.proofs.layout.cell_of.Tie as tie
+use Rattle.orders.proofs.cells.cell_of.Statement.{statement}
+use Rattle.orders.proofs.cells.cell_of.Tie as tie
 
 mul-result : tie.Need-mul-result
 mul-result c = search needs

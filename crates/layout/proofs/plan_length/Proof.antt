@@ -7,8 +7,8 @@ use Rattle.laws.specs.Sizes.{Counts, counted}
 use Rattle.laws.specs.Search.{turned-away, let-through}
 use Rattle.plan.specs.Plan.{plan}
 use Rattle.plan.specs.Asking.{total-accepted, total-refused}
-use Rattle.orders.proofs.plan_length.Statement.{statement}
-use Rattle.orders.proofs.plan_length.Tie as tie
+use Rattle.layout.proofs.plan_length.Statement.{statement}
+use Rattle.layout.proofs.plan_length.Tie as tie
 
 judge-counts-requires : tie.Need-judge-counts-requires
 judge-counts-requires c κs = search needs
