@@ -3,7 +3,7 @@ use mathlib.Core.Path.{_≡_, refl, sym}
 use Prim.Native.Nat.{ℕ, zero, suc, _+_, _*_, _^_, _≤_, _<_}
 use native.Mathlib.Omega.{arith}
 use native.Mathlib.Nat.{mul-le-mul-right}
-use mathlib.Core.List.{List, [], _∷_}
+use mathlib.Core.List.{[], _∷_}
 use lib.ListN.{length, getD}
 use Rattle.definitions.specs.Limits.{bidLimit, poolLimit}
 use Rattle.definitions.specs.Answers.{Refusal, none, refuse, unless}
