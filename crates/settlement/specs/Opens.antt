@@ -1,14 +1,11 @@
 -- The sheet that clearing leaves for an accepted book is a sheet, and opening does not refuse it (`plan-opens`).
-use Prim.Native.Nat.{ℕ}
 use mathlib.Core.Path.{_≡_, refl}
-use mathlib.Core.List.{List, [], _∷_}
 use lib.ListN.{length}
 use borrow.Author.Tests.{eq-eqb}
-use Rattle.definitions.specs.declared.Order.{Order}
 use Rattle.definitions.specs.Limits.{cellCount}
 use Rattle.definitions.specs.Book.{Book}
 use Rattle.definitions.specs.Sheet.{sealedSheet, resultCount}
-use Rattle.definitions.specs.Machine.{IsSheet, AllWellFormed}
+use Rattle.definitions.specs.Machine.{IsSheet}
 use Rattle.definitions.specs.Answers.{none}
 use Rattle.definitions.specs.Calls.{AcceptedBook, sealRefusal, countsRefusal, openRefusal}
 use Rattle.definitions.specs.Outcome.{planRun}
@@ -16,13 +13,9 @@ use Rattle.laws.specs.Refusal.{first-left}
 use Rattle.laws.specs.AcceptedBook.{Sound, accepted-sound}
 use Rattle.residues.specs.Cells.{sheet-accepted}
 use Rattle.machine.specs.Run.{run-sheet}
-use Rattle.plan.specs.Tree.{All}
-use Rattle.plan.specs.Plan.{plan, Permitted, plan-permitted}
+use Rattle.plan.specs.Plan.{plan}
+use Rattle.plan.specs.List.{plan-orders}
 use Rattle.clearing.specs.SealedSheet.{sealed-is-sheet}
-
-permitted-well-formed : (n m : ℕ) (orders : List Order) → All (Permitted n m) orders → AllWellFormed orders
-permitted-well-formed n m [] all = all
-permitted-well-formed n m (o ∷ orders) all = (all .0 .0, permitted-well-formed n m orders (all .1))
 
 module _ (B : Book) (accepted : AcceptedBook B) where
   pub run-is-sheet : IsSheet (planRun plan B)
@@ -30,7 +23,7 @@ module _ (B : Book) (accepted : AcceptedBook B) where
   run-is-sheet =
       let sound : Sound B = accepted-sound B accepted in
       run-sheet (plan (B .n) (B .m)) (sealedSheet B) (sealed-is-sheet B sound)
-      (permitted-well-formed (B .n) (B .m) (plan (B .n) (B .m)) (plan-permitted (B .n) (B .m) (sound .bids) (sound .pools)))
+      (plan-orders (B .n) (B .m) (sound .bids) (sound .pools))
 
   pub plan-opens : openRefusal (B .n) (B .m) (planRun plan B) (resultCount (B .n) (B .m)) ≡ none
   unfolding openRefusal sealRefusal

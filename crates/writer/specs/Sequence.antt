@@ -1,6 +1,6 @@
 -- Calls of the writer one after another, each from the position that the one before gave, with any slices of 8 bytes or more, give
 -- exactly the plan's bytes (`plan-sent`); the runner accepts these and runs the plan (`plan-run`).
-use Prim.Native.Nat.{ℕ, suc, _+_, _≤_, _<_}
+use Prim.Native.Nat.{ℕ, _+_, _≤_, _<_}
 use mathlib.Core.Path.{_≡_, refl, sym, ap, ap₂, _∙_, subst}
 use mathlib.Core.Bool.{Bool}
 use mathlib.Core.List.{List, [], _∷_, _++_, append-nil, append-assoc}
@@ -13,7 +13,7 @@ use Rattle.definitions.specs.declared.Order.the-variants.{Constant}
 use Rattle.definitions.specs.Answers.{Refusal, none, first}
 use Rattle.definitions.specs.Bytes.{ordersBytes}
 use Rattle.definitions.specs.Calls.{countsRefusal, runRefusal, runSheet, runCount}
-use Rattle.definitions.specs.Machine.{AllWellFormed, IsSheet, runOf, WellFormed}
+use Rattle.definitions.specs.Machine.{IsSheet, runOf, WellFormed}
 use Rattle.definitions.specs.Plan as plans
 use Rattle.definitions.specs.Plan.{Plan, fitting, roomRefusal, writeRefusal, ordersWritten, bytesWritten, writtenCounts, writeCounts, writeSlice}
 use Rattle.laws.specs.Tests.{Lt?, less, more, lt?}
@@ -21,7 +21,7 @@ use Rattle.laws.specs.Sizes.{counted}
 use Rattle.codec.specs.OrderBytes.{at-most-eight}
 use Rattle.runner.specs.Runs.{orders-bytes-run}
 use Rattle.plan.specs.Plan.{plan}
-use Rattle.plan.specs.List.{plan-well-formed}
+use Rattle.plan.specs.List.{plan-well-formed, plan-orders}
 use Rattle.plan.specs.Asking.{within-total}
 use Rattle.writer.specs.Fitting.{bytes-of-both, bytes-of-none, fits-at-most, some-fits}
 use Rattle.writer.specs.Calls.{counts-accepted, slice-accepted}
@@ -42,11 +42,6 @@ reached P n m (out ∷ outs) at = reached P n m outs (writeCounts P n m at (leng
 abbrev pub Roomy : List (List ℕ) → Type 0
 Roomy [] = Unit {0}
 Roomy (out ∷ outs) = (8 ≤ length out) × Roomy outs
-
--- each order of a list is well formed
-all-well-formed : (os : List Order) → ((at : ℕ) → at < length os → WellFormed (getD os at (Constant 0 0))) → AllWellFormed os
-all-well-formed [] h = tt
-all-well-formed (o ∷ os) h = (h 0 (omega arith), all-well-formed os (λ at l. h (suc at) (omega arith)))
 
 -- ---- one call
 
@@ -168,5 +163,6 @@ module _ (n m : ℕ) (counts : countsRefusal n m ≡ none) where
 
   pub plan-run : (outs : List (List ℕ)) → Roomy outs → length (plan n m) ≤ length outs → (sheet : List ℕ) → IsSheet sheet → PlanRun n m sheet (sent plan n m outs 0)
   plan-run outs roomy enough sheet is =
-      let run = orders-bytes-run sheet (plan n m) is (all-well-formed (plan n m) sound) in
+      let limits = counted n m counts in
+      let run = orders-bytes-run sheet (plan n m) is (plan-orders n m (limits .bids) (limits .pools .most)) in
       subst (PlanRun n m sheet) (sym (plan-sent outs roomy enough)) (record { accepted = run .refusal; leaves = run .cells; count = run .count })
