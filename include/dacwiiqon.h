@@ -6,9 +6,10 @@
  * Both functions return document 01's refusal number, 0 for none. On a refusal every slice holds what it held before.
  *   1  n above 64
  *   2  m is 0 or above 4
- *   3  out has another length than stated
+ *   3  out_length is not 8 (plan_total) or not 24 (plan_bytes)
  *   13 position past the total   (plan_bytes)
  *   14 fewer than 8 bytes lent   (plan_bytes)
+ * If several apply, the lowest number is returned. No state is kept between calls. 8 bytes always hold the next order.
  */
 #ifndef DACWIIQON_H
 #define DACWIIQON_H
