@@ -1,4 +1,4 @@
--- Refusals one after another: what a loop that leaves at the first one has found, and what acceptance says of each.
+-- Laws of `first`, `unless` and `firstFrom`: which refusal is found first, and what acceptance says of each.
 use Prim.Native.Nat.{ℕ, zero, suc, _+_, _<_}
 use mathlib.Core.Path.{_≡_, refl, sym, ap, _∙_}
 use mathlib.Core.Bool.{Bool, true, false, cond, true≢false}
@@ -66,9 +66,6 @@ from-next i k f = rw (add-one i) refl
 -- nothing refused at i: the search goes on; a refusal at i is the answer
 pub from-passed : (i k : ℕ) (f : ℕ → Refusal) → f i ≡ none → firstFrom i (suc k) f ≡ firstFrom (i + 1) k f
 from-passed i k f e = from-next i k f ∙ ap (λ (r : Refusal). first r (firstFrom (i + 1) k f)) e
-
-pub from-stopped : (i k number place : ℕ) (f : ℕ → Refusal) → f i ≡ refuse number place → firstFrom i (suc k) f ≡ refuse number place
-from-stopped i k number place f e = from-next i k f ∙ ap (λ (r : Refusal). first r (firstFrom (i + 1) k f)) e
 
 -- no refusal among k: none at each
 pub from-each : (i k : ℕ) (f : ℕ → Refusal) → firstFrom i k f ≡ none → (j : ℕ) → j < k → f (i + j) ≡ none

@@ -1,4 +1,4 @@
--- Refusals in turn: of judges called one after another, and of a loop that leaves at the first one.
+-- Refusals as a function's code meets them: after `if !is_accepted(..)`, and in a loop that leaves at the first one.
 use Prim.Native.Nat.{ℕ, suc, _+_, _-_, _<_, _≤_}
 use mathlib.Core.Path.{_≡_, sym, ap, _∙_}
 use mathlib.Core.Bool.{Bool, true, false, not}

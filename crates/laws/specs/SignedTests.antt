@@ -1,4 +1,4 @@
--- What a test of two signed numbers tells, as the borrow checker hands it over: each number that is no literal is read back from its bits, `toZ w (ofZ w x)`.
+-- What a test of two signed numbers tells, as the prover hands it over: each number that is no literal is read back from its bits, `toZ w (ofZ w x)`.
 -- `x < y` and `y <= x` in the code are ltZ and leZ of the readings. Each law turns the test's flag into that of the other test, of the numbers themselves.
 use mathlib.Core.Path.{_≡_, refl, sym, ap, _∙_, subst}
 use mathlib.Core.Bool.{Bool, true, false, true≢false}
@@ -45,13 +45,6 @@ above x {y = y} f e = lt-not-le x y (right x f e)
 
 pub not-above : {w : Width} (x : ℤ) {y : ℤ} → SFits w y → ltZ x (toZ w (ofZ w y)) ≡ false → leZ y x ≡ true
 not-above x {y = y} f e = not-lt-le x y (right x f e)
-
--- both variables
-pub both-below : {w : Width} {x y : ℤ} → SFits w x → SFits w y → ltZ (toZ w (ofZ w x)) (toZ w (ofZ w y)) ≡ true → leZ y x ≡ false
-both-below {x = x} f g e = above x g (left _ f e)
-
-pub both-not-below : {w : Width} {x y : ℤ} → SFits w x → SFits w y → ltZ (toZ w (ofZ w x)) (toZ w (ofZ w y)) ≡ false → leZ y x ≡ true
-both-not-below {x = x} f g e = not-above x g (left _ f e)
 
 -- ---- equality: the code compares the bits
 eqZ-refl : (x : ℤ) → eqZ x x ≡ true

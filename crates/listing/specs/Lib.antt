@@ -2,7 +2,6 @@
 pub mod Digits
 pub mod Lines
 pub mod Negative
-pub mod Printed
 pub mod Put
 pub mod Room
 pub mod Text

@@ -4,7 +4,7 @@ use mathlib.Core.Bool.{Bool, true, false, not, _&&_, cond, and-comm}
 use Prim.Native.Nat.{ℕ, zero, suc, _+_, _*_, _-_, _≤_, _<_, _/_, _%_, _^_, min}
 use native.Mathlib.Omega.{arith}
 use native.Mathlib.Nat.{mul-le-mul-right}
-use lib.Dec.{eqb, ltb, lit≤}
+use lib.Dec.{eqb, ltb}
 use lib.Arith.{digits-div, digits-mod}
 use lib.Pow.{pow-pos}
 use Rattle.definitions.specs.Limits.{bidLimit, poolLimit, priceLimit, quantityLimit, capacityLimit, greatestPositive}
@@ -38,10 +38,6 @@ use Rattle.theory.specs.ClosedForms.{leaves, subsetSum, rate, key, weigh
 -- all sizes and all capacities together; every number of the closed forms but a key stays below
 abbrev pub amountLimit : ℕ
 amountLimit = bidLimit * quantityLimit + poolLimit * poolLimit * capacityLimit
-
--- so no sum of them wraps, and each reads as itself
-pub amounts-positive : amountLimit + amountLimit ≤ greatestPositive
-amounts-positive = lit≤ tt
 
 -- the least does not depend on where it starts, if it starts high enough
 min-start : (d k : ℕ) (f : ℕ → ℕ) → 0 < k → f 0 ≤ d → minTo d k f ≡ minTo (f 0) k f
@@ -244,9 +240,6 @@ module _ (B : Book) (ok : Sound B) where
 
   pub ahead-cost-small : (i S : ℕ) → cost B (ahead B i) S ≤ amountLimit
   ahead-cost-small i S = omega (arith, ahead-cost i S, costs-small (greatest.ahead (before B) i) (member S))
-
-  pub reach-cost-small : (i S : ℕ) → i < B .n → cost B (reach B i) S ≤ amountLimit
-  reach-cost-small i S l = omega (arith, reach-cost i S l, costs-small (greatest.ahead (before B) i adding i) (member S))
 
   pub cut-small : (S : ℕ) → cut B S ≤ amountLimit
   cut-small S = omega (arith, ahead-cost-small 0 S)
