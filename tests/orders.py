@@ -46,15 +46,15 @@ def signed(x):
     return x - P if x > 1_073_741_823 else x
 
 
-def run(found, sheet):
+def run(found, cells):
     for parts in found:
         if parts[0] == 0:
-            sheet[parts[1]] = parts[2]
+            cells[parts[1]] = parts[2]
             continue
         kind, d, a, b = parts
-        x, y = sheet[a], sheet[b]
-        sheet[d] = [None, (x + y) % P, (x - y) % P, x * y % P, int(signed(x) < signed(y)), int(x == y)][kind]
-    return sheet
+        x, y = cells[a], cells[b]
+        cells[d] = [None, (x + y) % P, (x - y) % P, x * y % P, int(signed(x) < signed(y)), int(x == y)][kind]
+    return cells
 
 
 def groups(value):
@@ -69,16 +69,24 @@ def encoded(parts):
     return bytes(b for v in parts for b in groups(v))
 
 
-def sealed(n, m, bids, capacities):
-    values = [v for b in bids for v in b] + [v for row in capacities for v in row]
+def sheet(values):
     return [v % P for v in values] + [0] * (CELLS - len(values))
 
 
-def results(n, m, sheet):
-    first = 3 * n + m * m
-    accepted = [signed(x) for x in sheet[first:first + n]]
-    at = first + n
-    flows = [[signed(x) for x in sheet[at + a * m:at + a * m + m]] for a in range(m)]
-    at += m * m
-    prices = [signed(sheet[at + 2 * p]) if sheet[at + 2 * p + 1] else None for p in range(m)]
-    return accepted, flows, prices
+def inputs(bids, capacities):
+    return [v for b in bids for v in b] + [v for row in capacities for v in row]
+
+
+def sealed(bids, capacities):
+    return sheet(inputs(bids, capacities))
+
+
+def cleared(bids, capacities, accepted, flows, prices):
+    """The sheet that a plan has to leave: inputs as sealed, results, 0 in all scratch."""
+    cells = [v for price in prices for v in ((0, 0) if price is None else (price, 1))]
+    return sheet(inputs(bids, capacities) + accepted + [v for row in flows for v in row] + cells)
+
+
+def flows(n, m, cells):
+    at = 3 * n + m * m + n
+    return [[signed(x) for x in cells[at + a * m:at + a * m + m]] for a in range(m)]
