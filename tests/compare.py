@@ -1,7 +1,8 @@
 """Holds settle to the solver and the reader written apart: python3 tests/compare.py SETTLE [BOOKS] [SEED]
 
-SETTLE is the program. Sound books of every count, faulty books, damaged texts and the texts at the edges of what is readable are run through it,
+SETTLE is the program. Sound books of every n and m, faulty books, damaged texts and the texts at the edges of what is readable are run through it,
 and its whole output is checked: amounts, flows, prices, welfare, refusals."""
+import collections
 import random
 import subprocess
 import sys
@@ -9,6 +10,9 @@ import sys
 import books
 import solver
 import text
+
+# sound books, those that traded, those in which some line carried all it could
+TALLY = collections.Counter()
 
 
 def ran(program, data):
@@ -41,6 +45,9 @@ def listed(n, m, bids, capacities, output):
             continue
         last = a * m + b
         flows[a][b] = flow
+    TALLY["sound"] += 1
+    TALLY["traded"] += any(accepted)
+    TALLY["bound"] += any(0 < capacities[a][b] == flows[a][b] for a in range(m) for b in range(m))
     return found + solver.faults(n, m, bids, capacities, accepted, flows)
 
 
@@ -59,8 +66,7 @@ def texts(draw, count):
     yield from text.EDGES
     for n in range(solver.BIDS + 1):
         for m in range(1, solver.POOLS + 1):
-            if (n + m) % 3 == 0 or n < 4:
-                yield books.text(*books.sound(draw, n, m)).encode()
+            yield books.text(*books.sound(draw, n, m)).encode()
     for _ in range(count):
         kind = draw.random()
         if kind < 0.6:
@@ -80,7 +86,9 @@ def main():
         found = faults(data, ran(program, data))
         assert not found, (data[:2000], found)
         tried += 1
-    print(f"{tried} texts: settle answers as the solver and the reader written apart")
+    assert TALLY["traded"] > TALLY["sound"] / 2 and TALLY["bound"] > TALLY["sound"] / 5, TALLY
+    print(f"{tried} texts: settle answers as the solver and the reader written apart; "
+          f"of {TALLY['sound']} sound books {TALLY['traded']} traded, in {TALLY['bound']} some line carried all it could")
 
 
 if __name__ == "__main__":
