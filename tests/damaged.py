@@ -1,6 +1,7 @@
 """Holds the runner to the reader and the machine written apart, on whole, cut and damaged plans: python3 tests/damaged.py REPLAY DUMP [PLANS] [SEED]
 
 REPLAY is the program that runs the plan bytes of its input on an empty sheet, DUMP the program of tests/dump.c."""
+import collections
 import random
 import subprocess
 import sys
@@ -55,18 +56,31 @@ def damaged(draw, data):
     return bytes(data)
 
 
+def kind(output):
+    """The refusal's number, or "accepted"; and whether the place, or the count of orders, is 0."""
+    words = output.split("\n")[0].split(" ")
+    return "accepted" if words[0] == "orders" else words[1], words[-1] == "0"
+
+
 def main():
     replay, dump = sys.argv[1:3]
     count = int(sys.argv[3]) if len(sys.argv) > 3 else 500
     draw = random.Random(int(sys.argv[4]) if len(sys.argv) > 4 else 1)
-    plan = subprocess.run([dump, "2", "2"], stdout=subprocess.PIPE, check=True).stdout
+    plans = [subprocess.run([dump, *counts], stdout=subprocess.PIPE, check=True).stdout for counts in ["01", "22", "53", "34"]]
+    seen = collections.Counter()
     for k in range(count):
-        data = plan if k % 20 == 0 else b"".join(orders.encoded(order(draw)) for _ in range(draw.randint(0, 6)))
+        own = k % 5 == 0
+        data = draw.choice(plans) if own else b"".join(orders.encoded(order(draw)) for _ in range(draw.randint(0, 6)))
         if k % 4:
             data = damaged(draw, data)
         output = subprocess.run([replay], input=data, stdout=subprocess.PIPE, check=True).stdout.decode("ascii")
         assert output == expected(data), (data.hex(), output, expected(data))
-    print(f"{count} plans, whole, cut and damaged: the runner answers as the reader and the machine written apart")
+        seen[kind(output)] += 1
+        seen["damaged plans of the unit"] += own and k % 4 > 0
+    missed = [(answer, zero) for answer in ["accepted", "9", "10", "11", "12"] for zero in [True, False] if not seen[answer, zero]]
+    assert not missed, missed
+    print(f"{count} plans, whole, cut and damaged, {seen['damaged plans of the unit']} of them damaged plans of the unit: the runner answers as the reader and "
+          "the machine written apart, with every refusal at place 0 and later")
 
 
 if __name__ == "__main__":
