@@ -1,10 +1,47 @@
 """Tries every clearing of small books, and holds tests/solver.py to document 01's own words: greatest used amounts in
-dictionary order along the merit order, and greatest welfare. One command: python3 tests/exhaustive.py [BOOKS] [SEED]"""
+dictionary order along the merit order, and greatest welfare; and to its examples. One command: python3 tests/exhaustive.py [BOOKS] [SEED]"""
 import itertools
 import random
 import sys
 
 import solver
+
+# document 01's examples 1 to 7 and the book of its costly mistakes: m, lines, bids, and as much of the result as it prints
+EXAMPLES = [
+    (1, {}, [(1, 20, -10), (1, 30, 6)], {"accepted": [6, 6], "welfare": 60, "prices": [20]}),
+    (2, {(1, 2): 3}, [(1, 20, -10), (2, 30, 6)], {"accepted": [3, 3], "welfare": 30, "prices": [20, None]}),
+    (1, {}, [(1, 25, -5), (1, 25, 5)], {"accepted": [5, 5], "welfare": 0}),
+    (1, {}, [(1, 10, -5), (1, 30, 4), (1, 30, 4)], {"accepted": [5, 4, 1]}),
+    (1, {}, [(1, -10, -4), (1, -20, 4)], {"accepted": [0, 0]}),
+    (3, {(1, 2): 5, (2, 3): 2}, [(1, 10, -9), (2, 15, 4), (3, 40, 6)], {"accepted": [5, 3, 2], "welfare": 75}),
+    (2, {(1, 2): 7, (2, 1): 7}, [], {"accepted": [], "welfare": 0, "prices": [None, None]}),
+    (4, {(1, 2): 4, (2, 4): 4, (1, 3): 4, (3, 4): 4}, [(1, 10, -4), (2, 20, -4), (4, 30, 8)], {"accepted": [4, 4, 8]}),
+]
+
+
+def earlier(bids, i, j):
+    """Whether bid i comes before bid j in the merit order."""
+    (_, price, quantity), (_, other_price, other_quantity) = bids[i], bids[j]
+    purchase, other_purchase = quantity > 0, other_quantity > 0
+    if price != other_price:
+        return price < other_price  # lower limit price first
+    if purchase != other_purchase:
+        return other_purchase  # at equal price sales before purchases
+    if not purchase:
+        return i < j  # equal sales by lower bid number
+    return i > j  # equal purchases by higher bid number
+
+
+def welfare(bids, accepted):
+    """The sum of price x accepted over purchases less that over sales."""
+    purchases = sum(price * x for (_, price, quantity), x in zip(bids, accepted) if quantity > 0)
+    return purchases - sum(price * x for (_, price, quantity), x in zip(bids, accepted) if quantity <= 0)
+
+
+def highest(m, bids, accepted):
+    """Each pool's highest limit price among its sales accepted above 0, None with none."""
+    sold = [(pool, price) for (pool, price, quantity), x in zip(bids, accepted) if quantity <= 0 and x > 0]
+    return [max((price for pool, price in sold if pool == p), default=None) for p in range(1, m + 1)]
 
 
 def carried(m, capacities, need):
@@ -26,7 +63,7 @@ def carried(m, capacities, need):
 
 
 def best(n, m, bids, capacities):
-    order = solver.merit_order(bids)
+    order = sorted(range(n), key=lambda i: sum(earlier(bids, j, i) for j in range(n)))
     greatest, most = None, None
     for accepted in itertools.product(*(range(abs(q) + 1) for _, _, q in bids)):
         need = [0] * m
@@ -37,23 +74,41 @@ def best(n, m, bids, capacities):
         used = [bids[i][2] - accepted[i] if bids[i][2] > 0 else accepted[i] for i in order]
         if greatest is None or used > greatest[0]:
             greatest = used, list(accepted)
-        w = solver.welfare(bids, accepted)
+        w = welfare(bids, accepted)
         most = w if most is None else max(most, w)
     return greatest[1], most
+
+
+def small(draw):
+    """Few bids, small numbers; the prices of the two sides apart in some books; at most six lines."""
+    m, n, apart = draw.choice([1, 2, 3, 3, 4]), draw.randint(0, 6), draw.randint(0, 2)
+    bids = []
+    for _ in range(n):
+        quantity = draw.randint(-3, 3)
+        bids.append((draw.randint(1, m), draw.randint(-2, 2) + (apart if quantity > 0 else -apart), quantity))
+    capacities = [[0] * m for _ in range(m)]
+    pairs = [(a, b) for a in range(m) for b in range(m) if a != b]
+    for a, b in draw.sample(pairs, min(len(pairs), draw.randint(0, 6))):
+        capacities[a][b] = draw.randint(1, 2)
+    return n, m, bids, capacities
 
 
 def main():
     books = int(sys.argv[1]) if len(sys.argv) > 1 else 2000
     draw = random.Random(int(sys.argv[2]) if len(sys.argv) > 2 else 1)
-    for k in range(books):
-        m, n = draw.randint(1, 3), draw.randint(0, 4)
-        bids = [(draw.randint(1, m), draw.randint(-2, 2), draw.randint(-3, 3)) for _ in range(n)]
-        capacities = [[0 if a == b else draw.choice([0, 0, 1, 2]) for b in range(m)] for a in range(m)]
-        accepted, _ = solver.clear(n, m, bids, capacities)
+    for m, lines, bids, printed in EXAMPLES:
+        accepted, prices = solver.clear(len(bids), m, bids, [[lines.get((a, b), 0) for b in range(1, m + 1)] for a in range(1, m + 1)])
+        found = {"accepted": accepted, "welfare": solver.welfare(bids, accepted), "prices": prices}
+        assert printed == {part: found[part] for part in printed}, (bids, found, printed)
+    traded = 0
+    for _ in range(books):
+        n, m, bids, capacities = small(draw)
+        accepted, prices = solver.clear(n, m, bids, capacities)
         right, most = best(n, m, bids, capacities)
-        assert accepted == right, (n, m, bids, capacities, accepted, right)
-        assert solver.welfare(bids, accepted) == most, (n, m, bids, capacities, most)
-    print(f"{books} small books: every clearing tried, all as solved")
+        assert accepted == right and prices == highest(m, bids, right), (n, m, bids, capacities, accepted, prices, right)
+        assert solver.welfare(bids, accepted) == welfare(bids, accepted) == most, (n, m, bids, capacities, most)
+        traded += any(accepted)
+    print(f"document 01's {len(EXAMPLES)} books as it prints them; {books} small books, of which {traded} trade: every clearing tried, all as solved")
 
 
 if __name__ == "__main__":
