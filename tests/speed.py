@@ -23,7 +23,7 @@ def main():
     book = books.text(*books.sound(random.Random(7), 64, 4)).encode()
     with tempfile.NamedTemporaryFile() as plan:
         subprocess.run([dump, "64", "4"], stdout=plan, check=True)
-        orders, decoded, paths, _, _ = subprocess.run([speed, plan.name], input=book, stdout=subprocess.PIPE, check=True).stdout.split()
+        orders, decoded, paths = subprocess.run([speed, plan.name], input=book, stdout=subprocess.PIPE, check=True).stdout.split()
     turns = [(seconds(settle, book), seconds(settle, b"0 1 0\n")) for _ in range(200)]
     own = (statistics.median(full for full, _ in turns) - statistics.median(empty for _, empty in turns)) * 1e6
     decoded, paths = float(decoded), float(paths)

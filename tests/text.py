@@ -51,7 +51,7 @@ def damaged(draw, text):
     return bytes(text)
 
 
-# texts at the edges of what is readable, with what they are
+# texts at the edges of what is readable
 EDGES = [
     b"", b" ", b"\n\n", b"0", b"0 1", b"0 1 0", b" 0\n1  0 \n", b"0 1 0 0", b"0 1 -0", b"00 01 000", b"0 1 1", b"0 1 -1", b"0 1 x",
     b"999 1 x", b"999 1x", b"999 -1", b"999 99999999999", b"999", b"65 1", b"64 5", b"0 0", b"0 5 x", b"-0 1 0", b"-1 1 0", b"0 -0",

@@ -36,6 +36,7 @@ def answers(output, names):
 
 def main():
     texts, plans = calls("texts.rt"), calls("plans.rt")
+    assert texts and plans
     found = answers((CRATE / "stdout").read_text(), [name for name, _ in texts + plans])
     for (name, (data,)), answer in zip(texts, found):
         faults = compare.faults(data, answer)
