@@ -1,4 +1,5 @@
 // Runs the plan bytes of standard input on an empty sheet, and prints the count of orders and every cell that is not 0, or the refusal.
+// Bytes that fill the room may be a part of a longer input: none of them is run, and `too long` is printed.
 use definitions::Limits;
 use definitions::is_accepted;
 use definitions::number;
@@ -6,6 +7,13 @@ use definitions::place;
 use libc::STDIN_FILENO;
 use libc::STDOUT_FILENO;
 use runner::run;
+
+struct Replay {}
+
+impl Replay {
+    // Room for the bytes of a plan: the longest, for 64 bids and 4 pools, has about 393,000.
+    const ROOM: usize = 524_288;
+}
 
 fn wide(x: u32) -> u64 {
     x as u64
@@ -30,8 +38,12 @@ fn print_cells(sheet: &[u32; Limits::CELLS]) {
 }
 
 fn main() {
-    let mut bytes = io::large_buffer();
+    let mut bytes = [0u8; Replay::ROOM];
     let size = io::read_full(STDIN_FILENO, &mut bytes);
+    if size == Replay::ROOM {
+        io::write_all(STDOUT_FILENO, b"too long\n");
+        return;
+    }
     let mut sheet = [0u32; Limits::CELLS];
     let ran = run(&mut sheet, &bytes[..size]);
     let verdict = ran.verdict;
