@@ -1,7 +1,7 @@
 -- The whole text that settle reads, piece by piece, and the bytes that it is to print for it.
 use Prim.Native.Nat.{ℕ, _≤_}
 use mathlib.Core.Path.{_≡_, refl, ap, _∙_}
-use mathlib.Core.List.{List, [], _++_}
+use mathlib.Core.List.{List, [], _∷_, _++_}
 use lib.ListN.{length, take}
 use lib.IntN.{ℤ}
 use Rattle.definitions.specs.Limits.{cellCount}
@@ -22,6 +22,10 @@ use Rattle.settlement.specs.Settles.{settled-first}
 pub record SoFar (before : List ℤ) (reader : Reader) (numbers : List ℤ) : Type 0 where
   pub text : List ℕ
   pub same : reading reader numbers ≡ fed (reading startReader before) text
+
+-- what is fed where a read fails: the byte of a question mark, which no text may have
+abbrev pub failedRead : List ℕ
+failedRead = 63 ∷ []
 
 -- no piece yet
 pub nothing-read : (before : List ℤ) (reader : Reader) → reader ≡ startReader → SoFar before reader before

@@ -6,7 +6,7 @@ ghost use lib.ListN.{length, take};
 ghost use Rattle.io.specs.Counts.{clamped};
 ghost use Rattle.settlement.specs.Settled.{Counts};
 ghost use Rattle.text.specs.Reading.{reading, fed};
-ghost use Rattle.settle.specs.Whole.{ReadWhole, Prints, PrintsWhole};
+ghost use Rattle.settle.specs.Whole.{failedRead, ReadWhole, Prints, PrintsWhole};
 use definitions::Limits;
 use libc::STDIN_FILENO;
 use libc::STDOUT_FILENO;
@@ -29,7 +29,16 @@ fn feed_piece(
     reader.feed(&piece[..size], numbers)
 }
 
-// Feeds the reader piece by piece until the input ends; a read that fails ends it too.
+// A read that fails leaves a text of which only a part is known, and that part may be a whole book. So a byte that no text may have is fed:
+// the text is then unreadable, unless its counts were refused before.
+fn feed_failure(reader: Reader, numbers: &mut [i32; Reader::NUMBERS]) -> Reader
+    ensures { λ r. ⌜ r ≡ fed (reading reader (now (numbers .entry))) failedRead .reader ⌝ }
+    ensures { λ _. ⌜ now (numbers .exit) ≡ fed (reading reader (now (numbers .entry))) failedRead .numbers ⌝ }
+{
+    reader.feed(b"?", numbers)
+}
+
+// Feeds the reader piece by piece until the input ends or a read fails.
 // A proved loop has to end, and nothing says that an input does. So the loop counts its turns down, from a number that no run uses up.
 fn read_text(numbers: &mut [i32; Reader::NUMBERS]) -> Input
     ensures { λ r. ⌜ ReadWhole (now (numbers .entry)) r (now (numbers .exit)) ⌝ }
@@ -39,7 +48,11 @@ fn read_text(numbers: &mut [i32; Reader::NUMBERS]) -> Input
     while turns > 0 {
         let mut piece = io::buffer();
         let got = libc::read(STDIN_FILENO, &mut piece);
-        if got <= 0 {
+        if got < 0 {
+            let failed = feed_failure(reader, numbers);
+            return failed.finish(numbers);
+        }
+        if got == 0 {
             break;
         }
         reader = feed_piece(reader, got, &piece, numbers);
