@@ -5,7 +5,8 @@ ghost use Rattle.definitions.specs.Limits.{modulus};
 ghost use Rattle.definitions.specs.Arithmetic as arithmetic;
 use definitions::Limits;
 
-// A number as a cell holds it: a negative one is raised by p. The least i32, which p does not raise to 0, becomes 0.
+// A number as a cell holds it: a negative one is raised by p. The least i32 stays below 0 even then and becomes 0;
+// no accepted book holds it.
 pub fn residue(v: i32) -> u32
     ensures { λ r. ⌜ r ≡ arithmetic.residue v ⌝ }
 {
