@@ -9,7 +9,7 @@ use lib.IntN.{ℤ, pos, negsuc, negℤ}
 use borrow.Author.Tests.{ltb-true, ltb-false, lt-ltb, le-ltb, le-leb, lt-leb}
 use Rattle.definitions.specs.Settle.{Whole, noNumber, whole, digitsFrom, digits, signed, fitting32, wholeOf}
 use Rattle.text.specs.declared.Word.{Word}
-use Rattle.text.specs.declared.Word.the-variants.{Empty, Minus, Digits, Spoiled}
+use Rattle.text.specs.declared.Word.the-variants.{Empty, Minus, Digits, NoNumber}
 use Rattle.text.specs.declared.Ended.{Ended}
 use Rattle.text.specs.declared.Ended.the-variants.{Fault, Number}
 use Rattle.text.specs.Words.{greatest, least, beyond, capped, grownBy, signedOf, endedOf}
@@ -80,10 +80,10 @@ unfolding wordFrom
 word-more [] byte word = refl
 word-more (first ∷ bytes) byte word = word-more bytes byte (grownBy word first)
 
-spoiled-stays : (bytes : List ℕ) → wordFrom Spoiled bytes ≡ Spoiled
+no-number-stays : (bytes : List ℕ) → wordFrom NoNumber bytes ≡ NoNumber
 unfolding wordFrom
-spoiled-stays [] = refl
-spoiled-stays (byte ∷ bytes) = spoiled-stays bytes
+no-number-stays [] = refl
+no-number-stays (byte ∷ bytes) = no-number-stays bytes
 
 digits-ended : (negative : Bool) (bytes : List ℕ) (v : ℕ) → endedOf (wordFrom (Digits negative (capped v)) bytes) ≡ endedFor (fitting32 (digitsFrom negative v bytes))
 unfolding wordFrom digitsFrom
@@ -92,7 +92,7 @@ digits-ended negative (byte ∷ bytes) v = go (leb 48 byte && leb byte 57) refl 
   where
     go : (t : Bool) → (leb 48 byte && leb byte 57) ≡ t → ((u : ℕ) → endedOf (wordFrom (Digits negative (capped u)) bytes) ≡ endedFor (fitting32 (digitsFrom negative u bytes))) → endedOf (wordFrom (Digits negative (capped v)) (byte ∷ bytes)) ≡ endedFor (fitting32 (digitsFrom negative v (byte ∷ bytes)))
     go true e onward = rw (e, capped-digit v (byte - 48)) (onward (10 * v + (byte - 48)))
-    go false e onward = rw (e, spoiled-stays bytes) refl
+    go false e onward = rw (e, no-number-stays bytes) refl
 
 -- a minus is read, or none
 after-minus : (word : List ℕ) → endedOf (wordFrom Minus word) ≡ endedFor (fitting32 (digits true word))

@@ -4,7 +4,7 @@ use mathlib.Core.Bool.{Bool, true, false, cond, _&&_}
 use lib.Dec.{ltb, leb, eqb}
 use lib.IntN.{pos, negℤ}
 use Rattle.text.specs.declared.Word.{Word}
-use Rattle.text.specs.declared.Word.the-variants.{Empty, Minus, Digits, Spoiled}
+use Rattle.text.specs.declared.Word.the-variants.{Empty, Minus, Digits, NoNumber}
 use Rattle.text.specs.declared.Ended.{Ended}
 use Rattle.text.specs.declared.Ended.the-variants.{Nothing, Fault, Number}
 
@@ -24,14 +24,14 @@ capped value = cond (ltb value beyond) value beyond
 -- digits of that value, then one byte more
 abbrev pub digitAfter : (negative : Bool) (value byte : ℕ) → Word
 digitAfter negative value byte =
-    cond (leb 48 byte && leb byte 57) (Digits negative (capped (10 * value + (byte - 48)))) Spoiled
+    cond (leb 48 byte && leb byte 57) (Digits negative (capped (10 * value + (byte - 48)))) NoNumber
 
 -- a word with one byte more
 abbrev pub grownBy : Word → ℕ → Word
 grownBy Empty byte = cond (eqb byte 45) Minus (digitAfter false 0 byte)
 grownBy Minus byte = digitAfter true 0 byte
 grownBy (Digits negative value) byte = digitAfter negative value byte
-grownBy Spoiled byte = Spoiled
+grownBy NoNumber byte = NoNumber
 
 -- a number by its sign and size, if it is within signed 32 bits
 abbrev pub signedOf : (negative : Bool) (value : ℕ) → Ended
@@ -42,4 +42,4 @@ abbrev pub endedOf : Word → Ended
 endedOf Empty = Nothing
 endedOf Minus = Fault
 endedOf (Digits negative value) = signedOf negative value
-endedOf Spoiled = Fault
+endedOf NoNumber = Fault

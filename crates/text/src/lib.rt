@@ -12,7 +12,7 @@ enum Word {
     Empty,
     Minus,
     Digits { negative: bool, value: u32 },
-    Spoiled,
+    NoNumber,
 }
 
 // What a word is once it has ended: nothing, no number, or a number within signed 32 bits.
@@ -76,10 +76,10 @@ fn digit_after(negative: bool, value: u32, byte: u8) -> Word
     ensures { λ r. ⌜ r ≡ digitAfter negative value byte ⌝ }
 {
     if byte < b'0' {
-        return Word::Spoiled;
+        return Word::NoNumber;
     }
     if b'9' < byte {
-        return Word::Spoiled;
+        return Word::NoNumber;
     }
     let digit = byte - b'0';
     let next = cap(10 * (value as u64) + digit as u64);
@@ -102,7 +102,7 @@ fn grow(word: Word, byte: u8) -> Word
         }
         Word::Minus => digit_after(true, 0, byte),
         Word::Digits { negative, value } => digit_after(negative, value, byte),
-        Word::Spoiled => Word::Spoiled,
+        Word::NoNumber => Word::NoNumber,
     }
 }
 
@@ -131,7 +131,7 @@ fn end(word: Word) -> Ended
         Word::Empty => Ended::Nothing,
         Word::Minus => Ended::Fault,
         Word::Digits { negative, value } => signed(negative, value),
-        Word::Spoiled => Ended::Fault,
+        Word::NoNumber => Ended::Fault,
     }
 }
 
