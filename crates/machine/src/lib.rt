@@ -74,7 +74,7 @@ struct Parts {
     b: usize,
 }
 
-fn taken_apart(order: Order) -> Parts
+fn parts_of(order: Order) -> Parts
     ensures { λ r. ⌜ r ≡ partsOf order ⌝ }
 {
     match order {
@@ -129,7 +129,7 @@ pub fn step(sheet: &mut [u32], order: Order)
     requires { ⌜ WellFormed order ⌝ }
     ensures { λ _. ⌜ now (sheet .exit) ≡ stepOf (now (sheet .entry)) order ⌝ }
 {
-    let parts = taken_apart(order);
+    let parts = parts_of(order);
     let a = parts.a;
     let b = parts.b;
     let d = parts.d;

@@ -11,16 +11,16 @@ use Rattle.machine.specs.Run.{PartsWithin, parts-within}
 use Rattle.machine.proofs.step.Statement.{statement}
 use Rattle.machine.proofs.step.Tie as tie
 
-within : (c : tie.After-taken-apart) → PartsWithin (c .taken-apart .result)
+within : (c : tie.After-parts-of) → PartsWithin (c .parts-of .result)
 within c =
-    subst PartsWithin (sym (c .taken-apart .ensures))
+    subst PartsWithin (sym (c .parts-of .ensures))
     (parts-within (c .before .before .args .order) (c .before .before .pre .1))
 
 in-sheet : (s : List ℕ) (i : ℕ) → IsSheet s → i < cellCount → i < length s
 in-sheet s i h l = rw (h .cells) l
 
-taken-apart-requires : tie.Need-taken-apart-requires
-taken-apart-requires c κs = search needs
+parts-of-requires : tie.Need-parts-of-requires
+parts-of-requires c κs = search needs
 
 slice-read-x : tie.Need-slice-read-x
 slice-read-x c = in-sheet _ _ (c .before .before .before .pre .0) (within (c .before) .left)
@@ -48,7 +48,7 @@ same-length c = search needs
 
 returns : tie.Need-returns
 returns c =
-    let q = c .before .before .before .taken-apart in
+    let q = c .before .before .before .parts-of in
     let a = c .before .before .before .before .before .args in
     ap (set (a .sheet .now) (q .result .d)) (c .result .ensures)
     ∙ ap (store (a .sheet .now)) (q .ensures)
@@ -58,7 +58,7 @@ pub step-spec : {M : Type 1} → statement M
 step-spec =
     tie.close
     (tie.spec
-    taken-apart-requires
+    parts-of-requires
     mul-x
     slice-read-x
     mul-y

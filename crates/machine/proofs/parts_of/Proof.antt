@@ -1,9 +1,9 @@
--- `taken_apart` meets its contract: each arm is told the order's case.
+-- `parts_of` meets its contract: each arm is told the order's case.
 use mathlib.Core.Path.{sym, ap}
 use borrow.Author.Needs.{needs}
 use Rattle.machine.specs.Parts.{partsOf}
-use Rattle.machine.proofs.taken_apart.Statement.{statement}
-use Rattle.machine.proofs.taken_apart.Tie as tie
+use Rattle.machine.proofs.parts_of.Statement.{statement}
+use Rattle.machine.proofs.parts_of.Tie as tie
 
 enum-known-order : tie.Need-enum-known-order
 enum-known-order c = search needs
@@ -41,8 +41,8 @@ returns-5 c = sym (ap partsOf (c .before .order5 .given .1))
 returns-6 : tie.Need-returns-6
 returns-6 c = sym (ap partsOf (c .before .order6 .given .1))
 
-pub taken-apart-spec : {M : Type 1} → statement M
-taken-apart-spec =
+pub parts-of-spec : {M : Type 1} → statement M
+parts-of-spec =
     tie.close
     (tie.spec
     enum-known-order
