@@ -1,3 +1,4 @@
+-- `welfare_of` meets its contract: the amounts' cells lie on the sheet, and their part of it is summed.
 use Prim.Native.Nat.{ℕ, _+_, _-_, _≤_}
 use native.Mathlib.Omega.{arith}
 use borrow.Author.Needs.{needs}
@@ -17,39 +18,30 @@ use Rattle.welfare.proofs.welfare.Reads as welfare-reads
 end : (c : tie.After-shared-slice-known) → firstResult (c .before .args .n) (c .before .args .m) + c .before .args .n ≤ cellCount
 end c = amounts-end (c .before .args .n) (c .before .args .m) (c .before .pre .few-bids) (c .before .pre .few-pools)
 
--- src/lib.rt:52:17
 mul-first : tie.Need-mul-first
 mul-first c = search needs
 
--- src/lib.rt:52:43
 mul-first-2 : tie.Need-mul-first-2
 mul-first-2 c = omega (arith, end c)
 
--- src/lib.rt:52:17
 add-first : tie.Need-add-first
 add-first c = omega (arith, end c)
 
--- src/lib.rt:53:16
 add-last : tie.Need-add-last
 add-last c = omega (arith, end c)
 
--- src/lib.rt:54:19
 mul-welfare : tie.Need-mul-welfare
 mul-welfare c = omega (arith, end c)
 
--- src/lib.rt:54:19
 sub-welfare : tie.Need-sub-welfare
 sub-welfare c = search needs
 
--- src/lib.rt:54:19
 part-welfare-start : tie.Need-part-welfare-start
 part-welfare-start c = search needs
 
--- src/lib.rt:54:19
 part-welfare-end : tie.Need-part-welfare-end
 part-welfare-end c = omega (arith, end c, c .before .pre .cells)
 
--- src/lib.rt:54:5
 welfare-requires : tie.Need-welfare-requires
 welfare-requires c κs =
     let start = c .before .before in
@@ -57,7 +49,6 @@ welfare-requires c κs =
     let ready = part-ready (start .args .n) (start .args .m) (start .args .bids .now) (start .args .sheet .now) (start .pre) (first + start .args .n - first) (omega arith) in
     (ready .0, (ready .1, (ready .2, ready .3)))
 
--- src/lib.rt:48:1
 returns : tie.Need-returns
 returns c capacities =
     let start = c .before .before .before in

@@ -14,51 +14,39 @@ Inv-loop sheet c₀ t3 c = c ≤ 4096
 abbrev μ-loop : tie.MeasureT-loop
 μ-loop sheet c₀ t3 c = 4096 - c
 
--- src/main.rt:24:5
 loop-holds : tie.Need-loop-holds Inv-loop μ-loop
 loop-holds c = search needs
 
--- src/main.rt:25:12
 mul-if1 : tie.Need-mul-if1 Inv-loop μ-loop
 mul-if1 c = search needs
 
--- src/main.rt:25:12
 element-copy-out-if1 : tie.Need-element-copy-out-if1 Inv-loop μ-loop
 element-copy-out-if1 c = search needs
 
--- src/main.rt:26:24
 slice-aggregate-print-pair : tie.Need-slice-aggregate-print-pair Inv-loop μ-loop
 slice-aggregate-print-pair c = search needs
 
--- src/main.rt:26:49
 mul-wide : tie.Need-mul-wide Inv-loop μ-loop
 mul-wide c = search needs
 
--- src/main.rt:26:49
 element-copy-out-wide : tie.Need-element-copy-out-wide Inv-loop μ-loop
 element-copy-out-wide c = search needs
 
--- src/main.rt:26:44
 wide-requires : tie.Need-wide-requires Inv-loop μ-loop
 wide-requires c κs = search needs
 
--- src/main.rt:26:13
 print-pair-requires : tie.Need-print-pair-requires Inv-loop μ-loop
 print-pair-requires c κs = search needs
 
--- src/main.rt:28:9
 add-c : tie.Need-add-c Inv-loop μ-loop
 add-c c = search needs
 
--- src/main.rt:24:5
 loop-less : tie.Need-loop-less Inv-loop μ-loop
 loop-less c = search needs
 
--- src/main.rt:24:5
 loop-again : tie.Need-loop-again Inv-loop μ-loop
 loop-again c = search needs
 
--- src/main.rt:22:1
 returns : tie.Need-returns Inv-loop μ-loop
 returns c = search needs
 
