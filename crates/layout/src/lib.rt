@@ -29,7 +29,7 @@ impl Family {
 
     pub const TEMPORARIES: usize = 5;
 
-    pub const BLANKS: usize = 6;
+    pub const ZERO_CELLS: usize = 6;
 
     pub const UNITS: usize = 7;
 
@@ -41,7 +41,7 @@ impl Family {
 
     pub const SIZES: usize = 11;
 
-    pub const RATES: usize = 12;
+    pub const POSITIVE_PRICES: usize = 12;
 
     pub const DOUBLES: usize = 13;
 
@@ -49,9 +49,9 @@ impl Family {
 
     pub const NEXTS: usize = 15;
 
-    pub const PLACES: usize = 16;
+    pub const MEMBERSHIPS: usize = 16;
 
-    pub const WEIGHTS: usize = 17;
+    pub const POOL_SIZES: usize = 17;
 
     pub const DEMANDS: usize = 18;
 
@@ -59,13 +59,13 @@ impl Family {
 
     pub const CUTS: usize = 20;
 
-    pub const AHEADS: usize = 21;
+    pub const SIZES_BEFORE: usize = 21;
 
-    pub const LOWS: usize = 22;
+    pub const RANKS_BEFORE: usize = 22;
 
-    pub const REACHES: usize = 23;
+    pub const SIZES_WITH: usize = 23;
 
-    pub const HIGHS: usize = 24;
+    pub const RANKS_WITH: usize = 24;
 
     pub const USES: usize = 25;
 
@@ -75,7 +75,7 @@ impl Family {
 
     pub const OFFERS: usize = 28;
 
-    pub const PEAKS: usize = 29;
+    pub const HIGHEST_OFFERS: usize = 29;
 
     pub const COUNT: usize = 30;
 }
@@ -94,30 +94,30 @@ pub fn columns_of(m: usize) -> [usize; Family::COUNT]
         1, // flows
         2, // prices
         1, // temporaries
-        1, // blanks
+        1, // zero cells
         1, // units
         1, // shifts
         1, // pool numbers
         1, // sides
         1, // sizes
-        1, // rates
+        1, // positive prices
         1, // doubles
         1, // keys
         1, // nexts
-        m, // places
-        m, // weights
+        m, // memberships
+        m, // pool sizes
         1, // demands
         1, // subsets
         1, // cuts
-        m, // aheads
-        1, // lows
-        m, // reaches
-        1, // highs
+        m, // sizes before
+        1, // ranks before
+        m, // sizes with
+        1, // ranks with
         1, // uses
         1, // placements
         1, // slacks
         1, // offers
-        1, // peaks
+        1, // highest offers
     ]
 }
 
@@ -135,30 +135,30 @@ fn rows_of(n: usize, m: usize) -> [usize; Family::COUNT]
         lines, // flows
         m, // prices
         3, // temporaries
-        1, // blanks
+        1, // zero cells
         1, // units
         1, // shifts
         m, // pool numbers
         n, // sides
         n, // sizes
-        n, // rates
+        n, // positive prices
         n, // doubles
         n, // keys
         n, // nexts
-        n, // places
-        n, // weights
+        n, // memberships
+        n, // pool sizes
         m, // demands
         sets, // subsets
         sets, // cuts
-        n, // aheads
-        n, // lows
-        n, // reaches
-        n, // highs
+        n, // sizes before
+        n, // ranks before
+        n, // sizes with
+        n, // ranks with
         n, // uses
         m, // placements
         sets, // slacks
         n, // offers
-        m, // peaks
+        m, // highest offers
     ]
 }
 

@@ -21,7 +21,7 @@ use Rattle.plan.specs.Tree.{Tree, orders, seq, rep, blocks, flat, size, entry, 
 use Rattle.plan.specs.Subsets.{leaves, lowest, others}
 use Rattle.plan.specs.Running.{lowered, subsetOrder, subsetBlock}
 use Rattle.plan.specs.Blocks.{testAt, testOrder, cutTurn, restCell, restTurn, takenCell, takeTurn}
-use Rattle.plan.specs.Names.{temporaries, Blank, Temporary, Capacity, Cut, Slack, Subset, familyCount, rowsOf, columnsOf}
+use Rattle.plan.specs.Names.{temporaries, ZeroCell, Temporary, Capacity, Cut, Slack, Subset, familyCount, rowsOf, columnsOf}
 use Rattle.plan.specs.Work.{rankSize, bidTree, cutsTree, rankTrees, flowTree, priceTree, work}
 use Rattle.plan.specs.Proper.{Valid, Proper, work-proper, work-fair}
 use Rattle.plan.specs.Plan.{from, from-scratch, names-fit, cellOf, plan, plan-length, plan-entry, workLength, workAt, orderAt, work-size}
@@ -56,16 +56,16 @@ namedOf (made.Operate kind d a b) = operate (operationOf kind) (nameOf d) (nameO
 
 -- entry r of a block; shut, so that a proof need not write the block and r again
 unfoldable pub named : List (OrderOn Name) → ℕ → OrderOn Name
-named l r = getD l r (constant Blank 0)
+named l r = getD l r (constant ZeroCell 0)
 
-pub at-place : (l : List (OrderOn Name)) (r k : ℕ) → r ≡ k → getD l k (constant Blank 0) ≡ named l r
+pub at-place : (l : List (OrderOn Name)) (r k : ℕ) → r ≡ k → getD l k (constant ZeroCell 0) ≡ named l r
 unfolding named
-at-place l r k e = ap (λ (x : ℕ). getD l x (constant Blank 0)) (sym e)
+at-place l r k e = ap (λ (x : ℕ). getD l x (constant ZeroCell 0)) (sym e)
 
 -- ---- a tree's entries
 
 unfoldable pub entryAt : Tree (OrderOn Name) → ℕ → OrderOn Name
-entryAt t x = entry t x (constant Blank 0)
+entryAt t x = entry t x (constant ZeroCell 0)
 
 module _ (x : ℕ) (o : OrderOn Name) where
   -- in the first part, whose size the code may write another way
@@ -119,7 +119,7 @@ module _ (i j : ℕ) where
   test-same a b = rw (le-ltb j i a, le-ltb i j b)
 
 module _ (s a b : ℕ) where
-  pub cut-chosen : (x : Bool) → x ≡ leaves s a b → sum (Cut s) (Cut s) (cond x (Capacity a b) Blank) ≡ named (cutTurn s a b) 0
+  pub cut-chosen : (x : Bool) → x ≡ leaves s a b → sum (Cut s) (Cut s) (cond x (Capacity a b) ZeroCell) ≡ named (cutTurn s a b) 0
   unfolding named
   cut-chosen x e = rw e
 
@@ -152,7 +152,7 @@ pub named-next : (o : OrderOn Name) (l : List (OrderOn Name)) (r : ℕ) → 1 �
 unfolding named
 named-next o l r h =
     let e : r ≡ suc (r - 1) = omega arith in
-    sym (ap (λ (k : ℕ). getD (o ∷ l) k (constant Blank 0)) e)
+    sym (ap (λ (k : ℕ). getD (o ∷ l) k (constant ZeroCell 0)) e)
 
 -- ---- a rank's block, where the count of sets is known by an equation
 
@@ -191,8 +191,8 @@ work-at n m x o h = h
 pub work-at-proper : (n m x : ℕ) → 0 < m → m ≤ poolLimit → x < workLength n m → (o : OrderOn Name) → o ≡ workAt n m x → Proper n m o
 unfolding workAt workLength
 work-at-proper n m x p k l o e =
-    subst (Proper n m) (flat-entry (work n m) (work-fair n m p) x (constant Blank 0) l ∙ sym e)
-    (all-at (Proper n m) (flat (work n m)) (every-flat (Proper n m) (work n m) (work-proper n m (omega arith))) x (constant Blank 0) (omega (arith, flat-length (work n m) (work-fair n m p))))
+    subst (Proper n m) (flat-entry (work n m) (work-fair n m p) x (constant ZeroCell 0) l ∙ sym e)
+    (all-at (Proper n m) (flat (work n m)) (every-flat (Proper n m) (work n m) (work-proper n m (omega arith))) x (constant ZeroCell 0) (omega (arith, flat-length (work n m) (work-fair n m p))))
 
 -- ---- from names to cells
 

@@ -3,7 +3,7 @@ ghost use mathlib.Core.Path.{_≡_};
 ghost use Prim.Native.Nat.{_<_, _≤_, _^_};
 ghost use Rattle.definitions.specs.Limits.{poolLimit};
 ghost use Rattle.plan.specs.Running.{lowered, raised, subsetBlock};
-ghost use Rattle.plan.specs.Blocks.{sizeBlock, demandTurn, cutTurn, testOrder, gain, costTurn, amountBlock, placementTurn, restTurn, takeTurn, offerBlock, peakTurn, priceBlock};
+ghost use Rattle.plan.specs.Blocks.{sizeBlock, demandTurn, cutTurn, testOrder, gainTurn, costTurn, amountBlock, placementTurn, restTurn, takeTurn, offerBlock, highestOfferTurn, priceBlock};
 ghost use Rattle.orders.specs.Walk.{nameOf, namedOf, named};
 use crate::names::CellName;
 use crate::names::Kind;
@@ -40,26 +40,26 @@ pub fn demand_turn(p: usize, i: usize, r: usize) -> NamedOrder
     let first = CellName(Family::TEMPORARIES, 0, 0);
     if r == 0 {
         let side = CellName(Family::SIDES, i, 0);
-        let weight = CellName(Family::WEIGHTS, i, p);
-        return NamedOrder::Operate(Kind::PRODUCT, first, side, weight);
+        let pool_size = CellName(Family::POOL_SIZES, i, p);
+        return NamedOrder::Operate(Kind::PRODUCT, first, side, pool_size);
     }
     let demand = CellName(Family::DEMANDS, p, 0);
     NamedOrder::Operate(Kind::SUM, demand, demand, first)
 }
 
 // The size of bid j in pool p, where the test said that it is before bid i.
-pub fn gain_order(i: usize, j: usize, p: usize, r: usize) -> NamedOrder
+pub fn gain_turn(i: usize, j: usize, p: usize, r: usize) -> NamedOrder
     requires { ⌜ r < 2 ⌝ }
-    ensures { λ o. ⌜ namedOf o ≡ named (gain i j p) r ⌝ }
+    ensures { λ o. ⌜ namedOf o ≡ named (gainTurn i j p) r ⌝ }
 {
     let second = CellName(Family::TEMPORARIES, 1, 0);
     if r == 0 {
         let first = CellName(Family::TEMPORARIES, 0, 0);
-        let weight = CellName(Family::WEIGHTS, j, p);
-        return NamedOrder::Operate(Kind::PRODUCT, second, first, weight);
+        let pool_size = CellName(Family::POOL_SIZES, j, p);
+        return NamedOrder::Operate(Kind::PRODUCT, second, first, pool_size);
     }
-    let ahead = CellName(Family::AHEADS, i, p);
-    NamedOrder::Operate(Kind::SUM, ahead, ahead, second)
+    let size_before = CellName(Family::SIZES_BEFORE, i, p);
+    NamedOrder::Operate(Kind::SUM, size_before, size_before, second)
 }
 
 // The lesser of d and a, to d.
@@ -129,9 +129,9 @@ pub fn placement_turn(p: usize, i: usize, r: usize) -> NamedOrder
 {
     let first = CellName(Family::TEMPORARIES, 0, 0);
     if r == 0 {
-        let place = CellName(Family::PLACES, i, p);
+        let membership = CellName(Family::MEMBERSHIPS, i, p);
         let used = CellName(Family::USES, i, 0);
-        return NamedOrder::Operate(Kind::PRODUCT, first, place, used);
+        return NamedOrder::Operate(Kind::PRODUCT, first, membership, used);
     }
     let placement = CellName(Family::PLACEMENTS, p, 0);
     NamedOrder::Operate(Kind::SUM, placement, placement, first)
@@ -145,9 +145,9 @@ pub fn offer_order(i: usize, r: usize) -> NamedOrder
     let first = CellName(Family::TEMPORARIES, 0, 0);
     let second = CellName(Family::TEMPORARIES, 1, 0);
     if r == 0 {
-        let blank = CellName(Family::BLANKS, 0, 0);
+        let zero_cell = CellName(Family::ZERO_CELLS, 0, 0);
         let amount = CellName(Family::AMOUNTS, i, 0);
-        return NamedOrder::Operate(Kind::LESS, first, blank, amount);
+        return NamedOrder::Operate(Kind::LESS, first, zero_cell, amount);
     }
     if r == 1 {
         let one = CellName(Family::UNITS, 0, 0);
@@ -158,8 +158,8 @@ pub fn offer_order(i: usize, r: usize) -> NamedOrder
         return NamedOrder::Operate(Kind::PRODUCT, first, first, second);
     }
     let offer = CellName(Family::OFFERS, i, 0);
-    let rate = CellName(Family::RATES, i, 0);
-    NamedOrder::Operate(Kind::PRODUCT, offer, first, rate)
+    let positive_price = CellName(Family::POSITIVE_PRICES, i, 0);
+    NamedOrder::Operate(Kind::PRODUCT, offer, first, positive_price)
 }
 
 // The price and presence of pool p.
@@ -168,15 +168,15 @@ pub fn price_order(p: usize, r: usize) -> NamedOrder
     ensures { λ o. ⌜ namedOf o ≡ named (priceBlock p) r ⌝ }
 {
     let presence = CellName(Family::PRICES, p, 1);
-    let peak = CellName(Family::PEAKS, p, 0);
+    let highest_offer = CellName(Family::HIGHEST_OFFERS, p, 0);
     let first = CellName(Family::TEMPORARIES, 0, 0);
     if r == 0 {
-        let blank = CellName(Family::BLANKS, 0, 0);
-        return NamedOrder::Operate(Kind::LESS, presence, blank, peak);
+        let zero_cell = CellName(Family::ZERO_CELLS, 0, 0);
+        return NamedOrder::Operate(Kind::LESS, presence, zero_cell, highest_offer);
     }
     if r == 1 {
         let shift = CellName(Family::SHIFTS, 0, 0);
-        return NamedOrder::Operate(Kind::DIFFERENCE, first, peak, shift);
+        return NamedOrder::Operate(Kind::DIFFERENCE, first, highest_offer, shift);
     }
     let pool_price = CellName(Family::PRICES, p, 0);
     NamedOrder::Operate(Kind::PRODUCT, pool_price, first, presence)
@@ -209,8 +209,8 @@ pub fn test_order(i: usize, j: usize) -> NamedOrder
         let key = CellName(Family::KEYS, i, 0);
         return NamedOrder::Operate(Kind::LESS, first, double, key);
     }
-    let blank = CellName(Family::BLANKS, 0, 0);
-    NamedOrder::Operate(Kind::LESS, first, blank, blank)
+    let zero_cell = CellName(Family::ZERO_CELLS, 0, 0);
+    NamedOrder::Operate(Kind::LESS, first, zero_cell, zero_cell)
 }
 
 // Line a to b's part of the cut of s.
@@ -222,8 +222,8 @@ pub fn cut_turn(s: usize, a: usize, b: usize) -> NamedOrder
         let capacity = CellName(Family::CAPACITIES, a, b);
         return NamedOrder::Operate(Kind::SUM, cut, cut, capacity);
     }
-    let blank = CellName(Family::BLANKS, 0, 0);
-    NamedOrder::Operate(Kind::SUM, cut, cut, blank)
+    let zero_cell = CellName(Family::ZERO_CELLS, 0, 0);
+    NamedOrder::Operate(Kind::SUM, cut, cut, zero_cell)
 }
 
 // The least of what line a to b leaves, with set s.
@@ -253,8 +253,8 @@ pub fn take_turn(l: usize, a: usize, b: usize, s: usize) -> NamedOrder
         let flow = CellName(Family::FLOWS, l, 0);
         return NamedOrder::Operate(Kind::DIFFERENCE, slack, slack, flow);
     }
-    let blank = CellName(Family::BLANKS, 0, 0);
-    NamedOrder::Operate(Kind::DIFFERENCE, slack, slack, blank)
+    let zero_cell = CellName(Family::ZERO_CELLS, 0, 0);
+    NamedOrder::Operate(Kind::DIFFERENCE, slack, slack, zero_cell)
 }
 
 // Order r of what the set s costs, with the least in d.
@@ -275,16 +275,16 @@ pub fn cost_turn(m: usize, d: CellName, s: usize, r: usize) -> NamedOrder
 }
 
 // Order r of bid i's offer in pool p.
-pub fn peak_turn(p: usize, i: usize, r: usize) -> NamedOrder
+pub fn highest_offer_turn(p: usize, i: usize, r: usize) -> NamedOrder
     requires { ⌜ r < 5 ⌝ }
-    ensures { λ o. ⌜ namedOf o ≡ named (peakTurn p i) r ⌝ }
+    ensures { λ o. ⌜ namedOf o ≡ named (highestOfferTurn p i) r ⌝ }
 {
     let third = CellName(Family::TEMPORARIES, 2, 0);
     if r == 0 {
-        let place = CellName(Family::PLACES, i, p);
+        let membership = CellName(Family::MEMBERSHIPS, i, p);
         let offer = CellName(Family::OFFERS, i, 0);
-        return NamedOrder::Operate(Kind::PRODUCT, third, place, offer);
+        return NamedOrder::Operate(Kind::PRODUCT, third, membership, offer);
     }
-    let peak = CellName(Family::PEAKS, p, 0);
-    raised_order(peak, third, r - 1)
+    let highest_offer = CellName(Family::HIGHEST_OFFERS, p, 0);
+    raised_order(highest_offer, third, r - 1)
 }

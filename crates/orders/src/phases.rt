@@ -2,16 +2,16 @@
 ghost use mathlib.Core.Path.{_≡_};
 ghost use Prim.Native.Nat.{_<_, _≤_};
 ghost use Rattle.definitions.specs.Limits.{bidLimit, poolLimit};
-ghost use Rattle.plan.specs.Work.{bidTree, demandTree, cutTree, cutsTree, aheadTurnTree, aheadTree, rankTree, rankTrees, rankSize, placementTree, slackTree, restTree, takeTree, lineTree, flowTree, peakTree, priceTree};
+ghost use Rattle.plan.specs.Work.{bidTree, demandTree, cutTree, cutsTree, sizeBeforeTurnTree, sizeBeforeTree, rankTree, rankTrees, rankSize, placementTree, slackTree, restTree, takeTree, lineTree, flowTree, highestOfferTree, priceTree};
 ghost use Rattle.plan.specs.Orders.{at};
 ghost use Rattle.orders.specs.Walk.{namedOf, entryAt};
 use crate::blocks::amount_order;
 use crate::blocks::cost_turn;
 use crate::blocks::cut_turn;
 use crate::blocks::demand_turn;
-use crate::blocks::gain_order;
+use crate::blocks::gain_turn;
+use crate::blocks::highest_offer_turn;
 use crate::blocks::offer_order;
-use crate::blocks::peak_turn;
 use crate::blocks::placement_turn;
 use crate::blocks::price_order;
 use crate::blocks::rest_turn;
@@ -50,9 +50,9 @@ pub fn bid_order(n: usize, m: usize, x: usize) -> NamedOrder
     let c = b - m;
     if c < n {
         let side = CellName(Family::SIDES, c, 0);
-        let blank = CellName(Family::BLANKS, 0, 0);
+        let zero_cell = CellName(Family::ZERO_CELLS, 0, 0);
         let quantity = CellName(Family::BIDS, c, 2);
-        return NamedOrder::Operate(Kind::LESS, side, blank, quantity);
+        return NamedOrder::Operate(Kind::LESS, side, zero_cell, quantity);
     }
     let d = c - n;
     let sizes = n * 3;
@@ -61,16 +61,16 @@ pub fn bid_order(n: usize, m: usize, x: usize) -> NamedOrder
     }
     let e = d - sizes;
     if e < n {
-        let rate = CellName(Family::RATES, e, 0);
+        let positive_price = CellName(Family::POSITIVE_PRICES, e, 0);
         let price = CellName(Family::BIDS, e, 1);
         let shift = CellName(Family::SHIFTS, 0, 0);
-        return NamedOrder::Operate(Kind::SUM, rate, price, shift);
+        return NamedOrder::Operate(Kind::SUM, positive_price, price, shift);
     }
     let f = e - n;
     if f < n {
         let double = CellName(Family::DOUBLES, f, 0);
-        let rate = CellName(Family::RATES, f, 0);
-        return NamedOrder::Operate(Kind::SUM, double, rate, rate);
+        let positive_price = CellName(Family::POSITIVE_PRICES, f, 0);
+        return NamedOrder::Operate(Kind::SUM, double, positive_price, positive_price);
     }
     let g = f - n;
     if g < n {
@@ -106,8 +106,8 @@ fn cut_order(n: usize, m: usize, s: usize, x: usize) -> NamedOrder
     if x < 1 {
         let cut = CellName(Family::CUTS, s, 0);
         let subset = CellName(Family::SUBSETS, s, 0);
-        let blank = CellName(Family::BLANKS, 0, 0);
-        return NamedOrder::Operate(Kind::SUM, cut, subset, blank);
+        let zero_cell = CellName(Family::ZERO_CELLS, 0, 0);
+        return NamedOrder::Operate(Kind::SUM, cut, subset, zero_cell);
     }
     let y = x - 1;
     cut_turn(s, y / m, y % m)
@@ -124,19 +124,19 @@ pub fn cuts_order(n: usize, m: usize, x: usize) -> NamedOrder
     if x < pairs {
         let i = x / m;
         let p = x % m;
-        let place = CellName(Family::PLACES, i, p);
+        let membership = CellName(Family::MEMBERSHIPS, i, p);
         let pool = CellName(Family::BIDS, i, 0);
         let pool_number = CellName(Family::POOL_NUMBERS, p, 0);
-        return NamedOrder::Operate(Kind::EQUAL, place, pool, pool_number);
+        return NamedOrder::Operate(Kind::EQUAL, membership, pool, pool_number);
     }
     let a = x - pairs;
     if a < pairs {
         let i = a / m;
         let p = a % m;
-        let weight = CellName(Family::WEIGHTS, i, p);
-        let place = CellName(Family::PLACES, i, p);
+        let pool_size = CellName(Family::POOL_SIZES, i, p);
+        let membership = CellName(Family::MEMBERSHIPS, i, p);
         let size = CellName(Family::SIZES, i, 0);
-        return NamedOrder::Operate(Kind::PRODUCT, weight, place, size);
+        return NamedOrder::Operate(Kind::PRODUCT, pool_size, membership, size);
     }
     let b = a - pairs;
     let demand = 1 + n * 2;
@@ -156,28 +156,28 @@ pub fn cuts_order(n: usize, m: usize, x: usize) -> NamedOrder
 }
 
 // The sizes of bid j, pool by pool, if it is before bid i.
-fn ahead_turn(n: usize, m: usize, i: usize, j: usize, x: usize) -> NamedOrder
-    ensures { λ o. ⌜ namedOf o ≡ entryAt (aheadTurnTree n m i j) x ⌝ }
+fn size_before_turn(n: usize, m: usize, i: usize, j: usize, x: usize) -> NamedOrder
+    ensures { λ o. ⌜ namedOf o ≡ entryAt (sizeBeforeTurnTree n m i j) x ⌝ }
 {
     if x < 1 {
         return test_order(i, j);
     }
     let y = x - 1;
-    gain_order(i, j, y / 2, y % 2)
+    gain_turn(i, j, y / 2, y % 2)
 }
 
 // The sizes of the bids before bid i, pool by pool.
-fn ahead_order(n: usize, m: usize, i: usize, x: usize) -> NamedOrder
+fn size_before_order(n: usize, m: usize, i: usize, x: usize) -> NamedOrder
     requires { ⌜ m ≤ poolLimit ⌝ }
-    ensures { λ o. ⌜ namedOf o ≡ entryAt (aheadTree n m i) x ⌝ }
+    ensures { λ o. ⌜ namedOf o ≡ entryAt (sizeBeforeTree n m i) x ⌝ }
 {
     if x < m {
-        let ahead = CellName(Family::AHEADS, i, x);
-        return NamedOrder::Constant(ahead, 0);
+        let size_before = CellName(Family::SIZES_BEFORE, i, x);
+        return NamedOrder::Constant(size_before, 0);
     }
     let y = x - m;
     let turn = 1 + m * 2;
-    ahead_turn(n, m, i, y / turn, y % turn)
+    size_before_turn(n, m, i, y / turn, y % turn)
 }
 
 // The rank of bids whose sizes stand in row i of family t, to cell i of family u.
@@ -207,37 +207,51 @@ pub fn ranks_order(n: usize, m: usize, x: usize) -> NamedOrder
     requires { ⌜ 0 < m ⌝ }
     ensures { λ o. ⌜ namedOf o ≡ entryAt (rankTrees n m) x ⌝ }
 {
-    let ahead = m + n * (1 + m * 2);
-    let aheads = n * ahead;
-    if x < aheads {
-        return ahead_order(n, m, x / ahead, x % ahead);
+    let size_before = m + n * (1 + m * 2);
+    let sizes_before = n * size_before;
+    if x < sizes_before {
+        return size_before_order(n, m, x / size_before, x % size_before);
     }
-    let a = x - aheads;
+    let a = x - sizes_before;
     let rank = 1 + subset_count(m) * 6;
     let ranks = n * rank;
     if a < ranks {
-        return rank_order(n, m, Family::AHEADS, Family::LOWS, a / rank, a % rank);
+        return rank_order(
+            n,
+            m,
+            Family::SIZES_BEFORE,
+            Family::RANKS_BEFORE,
+            a / rank,
+            a % rank,
+        );
     }
     let b = a - ranks;
     let pairs = n * m;
     if b < pairs {
         let i = b / m;
         let p = b % m;
-        let reach = CellName(Family::REACHES, i, p);
-        let ahead = CellName(Family::AHEADS, i, p);
-        let weight = CellName(Family::WEIGHTS, i, p);
-        return NamedOrder::Operate(Kind::SUM, reach, ahead, weight);
+        let size_with = CellName(Family::SIZES_WITH, i, p);
+        let size_before = CellName(Family::SIZES_BEFORE, i, p);
+        let pool_size = CellName(Family::POOL_SIZES, i, p);
+        return NamedOrder::Operate(Kind::SUM, size_with, size_before, pool_size);
     }
     let c = b - pairs;
     if c < ranks {
-        return rank_order(n, m, Family::REACHES, Family::HIGHS, c / rank, c % rank);
+        return rank_order(
+            n,
+            m,
+            Family::SIZES_WITH,
+            Family::RANKS_WITH,
+            c / rank,
+            c % rank,
+        );
     }
     let d = c - ranks;
     if d < n {
         let used = CellName(Family::USES, d, 0);
-        let high = CellName(Family::HIGHS, d, 0);
-        let low = CellName(Family::LOWS, d, 0);
-        return NamedOrder::Operate(Kind::DIFFERENCE, used, high, low);
+        let rank_with = CellName(Family::RANKS_WITH, d, 0);
+        let rank_before = CellName(Family::RANKS_BEFORE, d, 0);
+        return NamedOrder::Operate(Kind::DIFFERENCE, used, rank_with, rank_before);
     }
     let e = d - n;
     amount_order(e / 4, e % 4)
@@ -262,8 +276,8 @@ fn rest_order(n: usize, m: usize, a: usize, b: usize, x: usize) -> NamedOrder
     if x < 1 {
         let third = CellName(Family::TEMPORARIES, 2, 0);
         let capacity = CellName(Family::CAPACITIES, a, b);
-        let blank = CellName(Family::BLANKS, 0, 0);
-        return NamedOrder::Operate(Kind::SUM, third, capacity, blank);
+        let zero_cell = CellName(Family::ZERO_CELLS, 0, 0);
+        return NamedOrder::Operate(Kind::SUM, third, capacity, zero_cell);
     }
     let y = x - 1;
     rest_turn(a, b, y / 4, y % 4)
@@ -338,15 +352,15 @@ pub fn flow_order(n: usize, m: usize, x: usize) -> NamedOrder
 }
 
 // The greatest offer in pool p.
-fn peak_order(n: usize, m: usize, p: usize, x: usize) -> NamedOrder
-    ensures { λ o. ⌜ namedOf o ≡ entryAt (peakTree n m p) x ⌝ }
+fn highest_offer_order(n: usize, m: usize, p: usize, x: usize) -> NamedOrder
+    ensures { λ o. ⌜ namedOf o ≡ entryAt (highestOfferTree n m p) x ⌝ }
 {
     if x < 1 {
-        let peak = CellName(Family::PEAKS, p, 0);
-        return NamedOrder::Constant(peak, 0);
+        let highest_offer = CellName(Family::HIGHEST_OFFERS, p, 0);
+        return NamedOrder::Constant(highest_offer, 0);
     }
     let y = x - 1;
-    peak_turn(p, y / 5, y % 5)
+    highest_offer_turn(p, y / 5, y % 5)
 }
 
 // The offers and the pool prices.
@@ -361,11 +375,11 @@ pub fn prices_order(n: usize, m: usize, x: usize) -> NamedOrder
         return offer_order(x / 4, x % 4);
     }
     let a = x - offers;
-    let peak = 1 + n * 5;
-    let peaks = m * peak;
-    if a < peaks {
-        return peak_order(n, m, a / peak, a % peak);
+    let highest_offer = 1 + n * 5;
+    let highest_offers = m * highest_offer;
+    if a < highest_offers {
+        return highest_offer_order(n, m, a / highest_offer, a % highest_offer);
     }
-    let b = a - peaks;
+    let b = a - highest_offers;
     price_order(b / 3, b % 3)
 }

@@ -6,7 +6,7 @@ use lib.Dec.{ltb}
 use Rattle.definitions.specs.Limits.{priceLimit, greatestPositive}
 use Rattle.plan.specs.Orders.{OrderOn, constant, sum, difference, product, less, equal, Name, at}
 use Rattle.plan.specs.Loops.{loop}
-use Rattle.plan.specs.Names.{units, shifts, Pool, Price, Quantity, Capacity, Amount, Flow, PoolPrice, Presence, Temporary, Blank, One, Shift, PoolNumber, Side, Size, Rate, Double, Key, Next, Place, Weight, Demand, Subset, Cut, Ahead, Low, Reach, High, Used, Placement, Slack, Offer, Peak}
+use Rattle.plan.specs.Names.{units, shifts, Pool, Price, Quantity, Capacity, Amount, Flow, PoolPrice, Presence, Temporary, ZeroCell, One, Shift, PoolNumber, Side, Size, PositivePrice, Double, Key, Next, Membership, PoolSize, Demand, Subset, Cut, SizeBefore, RankBefore, SizeWith, RankWith, Used, Placement, Slack, Offer, HighestOffer}
 use Rattle.plan.specs.Subsets.{leaves, complement}
 use Rattle.plan.specs.Running.{lowered, raised, subsetBlock}
 
@@ -27,7 +27,7 @@ poolNumberBlock p = constant (PoolNumber p) (suc p) ∷ []
 -- ---- each bid's numbers
 
 abbrev pub sideBlock : ℕ → Block
-sideBlock i = less (Side i) Blank (Quantity i) ∷ []
+sideBlock i = less (Side i) ZeroCell (Quantity i) ∷ []
 
 abbrev pub sizeBlock : ℕ → Block
 sizeBlock i =
@@ -36,11 +36,11 @@ sizeBlock i =
     ∷ difference (Size i) (Temporary 0) (Temporary 1)
     ∷ []
 
-abbrev pub rateBlock : ℕ → Block
-rateBlock i = sum (Rate i) (Price i) Shift ∷ []
+abbrev pub positivePriceBlock : ℕ → Block
+positivePriceBlock i = sum (PositivePrice i) (Price i) Shift ∷ []
 
 abbrev pub doubleBlock : ℕ → Block
-doubleBlock i = sum (Double i) (Rate i) (Rate i) ∷ []
+doubleBlock i = sum (Double i) (PositivePrice i) (PositivePrice i) ∷ []
 
 abbrev pub keyBlock : ℕ → Block
 keyBlock i = sum (Key i) (Double i) (Side i) ∷ []
@@ -48,16 +48,16 @@ keyBlock i = sum (Key i) (Double i) (Side i) ∷ []
 abbrev pub nextBlock : ℕ → Block
 nextBlock i = sum (Next i) (Double i) One ∷ []
 
-abbrev pub placeBlock : (i p : ℕ) → Block
-placeBlock i p = equal (Place i p) (Pool i) (PoolNumber p) ∷ []
+abbrev pub membershipBlock : (i p : ℕ) → Block
+membershipBlock i p = equal (Membership i p) (Pool i) (PoolNumber p) ∷ []
 
-abbrev pub weightBlock : (i p : ℕ) → Block
-weightBlock i p = product (Weight i p) (Place i p) (Size i) ∷ []
+abbrev pub poolSizeBlock : (i p : ℕ) → Block
+poolSizeBlock i p = product (PoolSize i p) (Membership i p) (Size i) ∷ []
 
 -- ---- the cuts
 
 abbrev pub demandTurn : (p i : ℕ) → Block
-demandTurn p i = product (Temporary 0) (Side i) (Weight i p) ∷ sum (Demand p) (Demand p) (Temporary 0) ∷ []
+demandTurn p i = product (Temporary 0) (Side i) (PoolSize i p) ∷ sum (Demand p) (Demand p) (Temporary 0) ∷ []
 
 abbrev pub demandBlock : (n p : ℕ) → Block
 demandBlock n p = constant (Demand p) 0 ∷ loop n (demandTurn p)
@@ -66,12 +66,12 @@ demandBlock n p = constant (Demand p) 0 ∷ loop n (demandTurn p)
 abbrev pub subsetBlocks : (m : ℕ) → (ℕ → Name) → Block
 subsetBlocks m X = loop (2 ^ m) (subsetBlock m X)
 
--- the blank cell where the line does not leave the set: every turn is one order
+-- the zero cell where the line does not leave the set: every turn is one order
 abbrev pub cutTurn : (S a b : ℕ) → Block
-cutTurn S a b = sum (Cut S) (Cut S) (cond (leaves S a b) (Capacity a b) Blank) ∷ []
+cutTurn S a b = sum (Cut S) (Cut S) (cond (leaves S a b) (Capacity a b) ZeroCell) ∷ []
 
 abbrev pub cutBlock : (m S : ℕ) → Block
-cutBlock m S = sum (Cut S) (Subset S) Blank ∷ loop m (λ a. loop m (cutTurn S a))
+cutBlock m S = sum (Cut S) (Subset S) ZeroCell ∷ loop m (λ a. loop m (cutTurn S a))
 
 -- ---- the ranks
 
@@ -79,22 +79,22 @@ cutBlock m S = sum (Cut S) (Subset S) Blank ∷ loop m (λ a. loop m (cutTurn S 
 abbrev pub testAt : Bool → Bool → (i j : ℕ) → OrderOn Name
 testAt true y i j = less (Temporary 0) (Key j) (Next i)
 testAt false true i j = less (Temporary 0) (Double j) (Key i)
-testAt false false i j = less (Temporary 0) Blank Blank
+testAt false false i j = less (Temporary 0) ZeroCell ZeroCell
 
 abbrev pub testOrder : (i j : ℕ) → OrderOn Name
 testOrder i j = testAt (ltb j i) (ltb i j) i j
 
-abbrev pub gain : (i j p : ℕ) → Block
-gain i j p = product (Temporary 1) (Temporary 0) (Weight j p) ∷ sum (Ahead i p) (Ahead i p) (Temporary 1) ∷ []
+abbrev pub gainTurn : (i j p : ℕ) → Block
+gainTurn i j p = product (Temporary 1) (Temporary 0) (PoolSize j p) ∷ sum (SizeBefore i p) (SizeBefore i p) (Temporary 1) ∷ []
 
-abbrev pub aheadTurn : (m i j : ℕ) → Block
-aheadTurn m i j = testOrder i j ∷ loop m (gain i j)
+abbrev pub sizeBeforeTurn : (m i j : ℕ) → Block
+sizeBeforeTurn m i j = testOrder i j ∷ loop m (gainTurn i j)
 
-abbrev pub aheadStart : (i p : ℕ) → Block
-aheadStart i p = constant (Ahead i p) 0 ∷ []
+abbrev pub sizeBeforeStart : (i p : ℕ) → Block
+sizeBeforeStart i p = constant (SizeBefore i p) 0 ∷ []
 
-abbrev pub aheadBlock : (n m i : ℕ) → Block
-aheadBlock n m i = loop m (aheadStart i) ++ loop n (aheadTurn m i)
+abbrev pub sizeBeforeBlock : (n m i : ℕ) → Block
+sizeBeforeBlock n m i = loop m (sizeBeforeStart i) ++ loop n (sizeBeforeTurn m i)
 
 -- lower d to what the set S costs: its cut, and the subset's sum outside it
 abbrev pub costTurn : (m : ℕ) (d : Name) (S : ℕ) → Block
@@ -106,19 +106,19 @@ costLoop m d = constant d greatestPositive ∷ loop (2 ^ m) (costTurn m d)
 abbrev pub rankBlock : (m : ℕ) → (ℕ → Name) → (d : Name) → Block
 rankBlock m X d = subsetBlocks m X ++ costLoop m d
 
-abbrev pub lowBlock : (m i : ℕ) → Block
-lowBlock m i = rankBlock m (Ahead i) (Low i)
+abbrev pub rankBeforeBlock : (m i : ℕ) → Block
+rankBeforeBlock m i = rankBlock m (SizeBefore i) (RankBefore i)
 
-abbrev pub reachBlock : (i p : ℕ) → Block
-reachBlock i p = sum (Reach i p) (Ahead i p) (Weight i p) ∷ []
+abbrev pub sizeWithBlock : (i p : ℕ) → Block
+sizeWithBlock i p = sum (SizeWith i p) (SizeBefore i p) (PoolSize i p) ∷ []
 
-abbrev pub highBlock : (m i : ℕ) → Block
-highBlock m i = rankBlock m (Reach i) (High i)
+abbrev pub rankWithBlock : (m i : ℕ) → Block
+rankWithBlock m i = rankBlock m (SizeWith i) (RankWith i)
 
 -- ---- the amounts
 
 abbrev pub useBlock : ℕ → Block
-useBlock i = difference (Used i) (High i) (Low i) ∷ []
+useBlock i = difference (Used i) (RankWith i) (RankBefore i) ∷ []
 
 abbrev pub amountBlock : ℕ → Block
 amountBlock i =
@@ -131,7 +131,7 @@ amountBlock i =
 -- ---- the flows
 
 abbrev pub placementTurn : (p i : ℕ) → Block
-placementTurn p i = product (Temporary 0) (Place i p) (Used i) ∷ sum (Placement p) (Placement p) (Temporary 0) ∷ []
+placementTurn p i = product (Temporary 0) (Membership i p) (Used i) ∷ sum (Placement p) (Placement p) (Temporary 0) ∷ []
 
 abbrev pub placementBlock : (n p : ℕ) → Block
 placementBlock n p = constant (Placement p) 0 ∷ loop n (placementTurn p)
@@ -151,13 +151,13 @@ restTurn a b S = lowered (Temporary 2) (restCell (leaves S a b) S a b)
 abbrev pub takenCell : Bool → Bool → (l : ℕ) → Name
 takenCell true y l = Temporary 2
 takenCell false true l = Flow l
-takenCell false false l = Blank
+takenCell false false l = ZeroCell
 
 abbrev pub takeTurn : (l a b S : ℕ) → Block
 takeTurn l a b S = difference (Slack S) (Slack S) (takenCell (leaves S a b) (leaves S b a) l) ∷ []
 
 abbrev pub restPart : (m a b : ℕ) → Block
-restPart m a b = sum (Temporary 2) (Capacity a b) Blank ∷ loop (2 ^ m) (restTurn a b)
+restPart m a b = sum (Temporary 2) (Capacity a b) ZeroCell ∷ loop (2 ^ m) (restTurn a b)
 
 abbrev pub flowPart : (m l a b : ℕ) → Block
 flowPart m l a b = difference (Flow l) (Capacity a b) (Temporary 2) ∷ loop (2 ^ m) (takeTurn l a b)
@@ -169,21 +169,21 @@ lineBlock m l = restPart m (l / m) (l % m) ++ flowPart m l (l / m) (l % m)
 
 abbrev pub offerBlock : ℕ → Block
 offerBlock i =
-    less (Temporary 0) Blank (Amount i)
+    less (Temporary 0) ZeroCell (Amount i)
     ∷ difference (Temporary 1) One (Side i)
     ∷ product (Temporary 0) (Temporary 0) (Temporary 1)
-    ∷ product (Offer i) (Temporary 0) (Rate i)
+    ∷ product (Offer i) (Temporary 0) (PositivePrice i)
     ∷ []
 
-abbrev pub peakTurn : (p i : ℕ) → Block
-peakTurn p i = product (Temporary 2) (Place i p) (Offer i) ∷ raised (Peak p) (Temporary 2)
+abbrev pub highestOfferTurn : (p i : ℕ) → Block
+highestOfferTurn p i = product (Temporary 2) (Membership i p) (Offer i) ∷ raised (HighestOffer p) (Temporary 2)
 
-abbrev pub peakBlock : (n p : ℕ) → Block
-peakBlock n p = constant (Peak p) 0 ∷ loop n (peakTurn p)
+abbrev pub highestOfferBlock : (n p : ℕ) → Block
+highestOfferBlock n p = constant (HighestOffer p) 0 ∷ loop n (highestOfferTurn p)
 
 abbrev pub priceBlock : ℕ → Block
 priceBlock p =
-    less (Presence p) Blank (Peak p)
-    ∷ difference (Temporary 0) (Peak p) Shift
+    less (Presence p) ZeroCell (HighestOffer p)
+    ∷ difference (Temporary 0) (HighestOffer p) Shift
     ∷ product (PoolPrice p) (Temporary 0) (Presence p)
     ∷ []

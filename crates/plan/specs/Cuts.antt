@@ -14,15 +14,15 @@ use Rattle.plan.specs.Orders.{constant, sum, Name, run, State}
 use Rattle.plan.specs.Residues.{plus-small, times-on}
 use Rattle.plan.specs.Loops.{loop, among, writes, writes-loop, keep, eqb-same}
 use Rattle.plan.specs.Holds.{Holds, Phase, holds-keep, holds-part, fill-column, fill-after}
-use Rattle.plan.specs.Names.{capacities, blanks, sides, weights, demands, subsets, cuts, temporaries, Blank, Demand, Subset, Cut, Capacity}
+use Rattle.plan.specs.Names.{capacities, zeroCells, sides, poolSizes, demands, subsets, cuts, temporaries, ZeroCell, Demand, Subset, Cut, Capacity}
 use Rattle.plan.specs.Subsets.{leaves, subsetSum}
 use Rattle.plan.specs.Running.{Adds, accumulate, gather, subsetBlock, subset-frame, subset-sums}
 use Rattle.plan.specs.Values.{tables, weight, demand, cut}
 use Rattle.plan.specs.Blocks.{demandTurn, demandBlock, subsetBlocks, cutTurn, cutBlock}
 use Rattle.plan.specs.Bounds.{weight-small, demand-small, demands-small, cut-small}
 
--- a cell, or the blank one where the test fails
-pub chosen : (t : State) (x : Bool) (c : Name) (v : ℕ) → t Blank ≡ 0 → t c ≡ v → t (cond x c Blank) ≡ on x v
+-- a cell, or the zero cell where the test fails
+pub chosen : (t : State) (x : Bool) (c : Name) (v : ℕ) → t ZeroCell ≡ 0 → t c ≡ v → t (cond x c ZeroCell) ≡ on x v
 chosen t true c v e f = f
 chosen t false c v e f = e
 
@@ -31,65 +31,65 @@ subsets-frame m X = writes-loop _ (2 ^ m) (subsetBlock m X) (λ S _. subset-fram
 
 module _ (B : Book) (sound : Sound B) where
   abbrev Sides : State → Type 0
-  Sides = Holds (tables B) (sides ∷ weights ∷ [])
+  Sides = Holds (tables B) (sides ∷ poolSizes ∷ [])
 
   demand-value : (p : ℕ) (t : State) → p < B .m → Sides t → run (demandBlock (B .n) p) t (Demand p) ≡ demand B p
   unfolding demand
   demand-value p t b h =
       gather Sides (Demand p) (loop (B .n) (demandTurn p)) (demand B p)
-      (holds-keep (tables B) (demands ∷ []) (sides ∷ weights ∷ []) refl (constant (Demand p) 0 ∷ []) refl)
+      (holds-keep (tables B) (demands ∷ []) (sides ∷ poolSizes ∷ []) refl (constant (Demand p) 0 ∷ []) refl)
       (accumulate Sides (Demand p) (B .n) (demandTurn p) (λ i. on (purchase B i) (weight B i p))
       (λ i l r g c. (
-        holds-keep (tables B) (demands ∷ temporaries ∷ []) (sides ∷ weights ∷ []) refl (demandTurn p i) refl r g,
-        rw (eqb-same p, g weights refl i p l b, g sides refl i 0 l (lit< tt), times-on (purchase B i) (weight B i p) (omega (arith, weight-small B sound i p l)))
+        holds-keep (tables B) (demands ∷ temporaries ∷ []) (sides ∷ poolSizes ∷ []) refl (demandTurn p i) refl r g,
+        rw (eqb-same p, g poolSizes refl i p l b, g sides refl i 0 l (lit< tt), times-on (purchase B i) (weight B i p) (omega (arith, weight-small B sound i p l)))
             (plus-small (r (Demand p)) (on (purchase B i) (weight B i p)) c),
       )))
       t h (omega (arith, demand-small B sound p)) .1
 
-  pub demand-phase : Phase (tables B) (sides ∷ weights ∷ []) demands (temporaries ∷ []) (loop (B .m) (demandBlock (B .n)))
-  demand-phase = fill-column (tables B) (sides ∷ weights ∷ []) demands (temporaries ∷ []) refl refl refl (demandBlock (B .n))
+  pub demand-phase : Phase (tables B) (sides ∷ poolSizes ∷ []) demands (temporaries ∷ []) (loop (B .m) (demandBlock (B .n)))
+  demand-phase = fill-column (tables B) (sides ∷ poolSizes ∷ []) demands (temporaries ∷ []) refl refl refl (demandBlock (B .n))
       (λ p. rw (eqb-same p) (writes-loop _ (B .n) (demandTurn p) (λ i _. rw (eqb-same p)))) demand-value
 
   -- with the demands' sums over all subsets
   abbrev Lines : State → Type 0
-  Lines = Holds (tables B) (capacities ∷ blanks ∷ [])
+  Lines = Holds (tables B) (capacities ∷ zeroCells ∷ [])
 
   abbrev Summed : State → Type 0
   Summed t = Lines t × ((S : ℕ) → S < 2 ^ B .m → t (Subset S) ≡ subsetSum (B .m) (demand B) S)
 
   line-adds : (S a b : ℕ) → a < B .m → b < B .m → Adds Lines (Cut S) (cutTurn S a b) (on (leaves S a b) (capacity B a b))
   line-adds S a b x y r g c = (
-    holds-keep (tables B) (cuts ∷ []) (capacities ∷ blanks ∷ []) refl (cutTurn S a b) refl r g,
-    rw (eqb-same S, chosen r (leaves S a b) (Capacity a b) (capacity B a b) (g blanks refl 0 0 (lit< tt) (lit< tt)) (g capacities refl a b x y)) (plus-small (r (Cut S)) _ c),
+    holds-keep (tables B) (cuts ∷ []) (capacities ∷ zeroCells ∷ []) refl (cutTurn S a b) refl r g,
+    rw (eqb-same S, chosen r (leaves S a b) (Capacity a b) (capacity B a b) (g zeroCells refl 0 0 (lit< tt) (lit< tt)) (g capacities refl a b x y)) (plus-small (r (Cut S)) _ c),
   )
 
   cut-value : (S : ℕ) (t : State) → S < 2 ^ B .m → Summed t → run (cutBlock (B .m) S) t (Cut S) ≡ cut B S
   unfolding cut
   cut-value S t l h =
-      let u : State = run (sum (Cut S) (Subset S) Blank ∷ []) t in
+      let u : State = run (sum (Cut S) (Subset S) ZeroCell ∷ []) t in
       let bound : cut B S < modulus = omega (arith, cut-small B sound S) in
       let e : u (Cut S) ≡ subsetSum (B .m) (demand B) S
-      = rw (eqb-same S, h .1 S l, h .0 blanks refl 0 0 (lit< tt) (lit< tt)) (omega arith) in
+      = rw (eqb-same S, h .1 S l, h .0 zeroCells refl 0 0 (lit< tt) (lit< tt)) (omega arith) in
       let r : run (loop (B .m) (λ a. loop (B .m) (cutTurn S a))) u (Cut S) ≡ u (Cut S) + sumTo (B .m) (λ a. sumTo (B .m) (λ b. on (leaves S a b) (capacity B a b)))
       = accumulate Lines (Cut S) (B .m) (λ a. loop (B .m) (cutTurn S a)) (λ a. sumTo (B .m) (λ b. on (leaves S a b) (capacity B a b)))
       (λ a x. accumulate Lines (Cut S) (B .m) (cutTurn S a) (λ b. on (leaves S a b) (capacity B a b)) (λ b y. line-adds S a b x y))
-      u (holds-keep (tables B) (cuts ∷ []) (capacities ∷ blanks ∷ []) refl (sum (Cut S) (Subset S) Blank ∷ []) refl t (h .0)) (omega arith) .1 in
+      u (holds-keep (tables B) (cuts ∷ []) (capacities ∷ zeroCells ∷ []) refl (sum (Cut S) (Subset S) ZeroCell ∷ []) refl t (h .0)) (omega arith) .1 in
       r ∙ ap (λ (v : ℕ). v + sumTo (B .m) (λ a. sumTo (B .m) (λ b. on (leaves S a b) (capacity B a b)))) e
 
   cut-frame : (S : ℕ) → writes (among (cuts ∷ [])) (cutBlock (B .m) S) ≡ true
   cut-frame S = writes-loop _ (B .m) _ (λ a _. writes-loop _ (B .m) _ (λ b _. refl))
 
-  pub cut-phase : Phase (tables B) (demands ∷ capacities ∷ blanks ∷ []) cuts (subsets ∷ []) (subsetBlocks (B .m) Demand ++ loop (2 ^ B .m) (cutBlock (B .m)))
+  pub cut-phase : Phase (tables B) (demands ∷ capacities ∷ zeroCells ∷ []) cuts (subsets ∷ []) (subsetBlocks (B .m) Demand ++ loop (2 ^ B .m) (cutBlock (B .m)))
   cut-phase =
-      fill-after (tables B) (demands ∷ capacities ∷ blanks ∷ []) cuts (subsets ∷ []) refl refl (subsetBlocks (B .m) Demand) (cutBlock (B .m)) Summed (subsets-frame (B .m) Demand)
+      fill-after (tables B) (demands ∷ capacities ∷ zeroCells ∷ []) cuts (subsets ∷ []) refl refl (subsetBlocks (B .m) Demand) (cutBlock (B .m)) Summed (subsets-frame (B .m) Demand)
       (λ S. rw (eqb-same S) (writes-loop _ (B .m) _ (λ a _. writes-loop _ (B .m) _ (λ b _. rw (eqb-same S)))))
       (λ s h. (
-        holds-keep (tables B) (subsets ∷ []) (capacities ∷ blanks ∷ []) refl (subsetBlocks (B .m) Demand) (subsets-frame (B .m) Demand) s
-            (holds-part (tables B) (demands ∷ capacities ∷ blanks ∷ []) (capacities ∷ blanks ∷ []) refl s h),
+        holds-keep (tables B) (subsets ∷ []) (capacities ∷ zeroCells ∷ []) refl (subsetBlocks (B .m) Demand) (subsets-frame (B .m) Demand) s
+            (holds-part (tables B) (demands ∷ capacities ∷ zeroCells ∷ []) (capacities ∷ zeroCells ∷ []) refl s h),
         subset-sums (B .m) Demand (λ p. refl) (demand B) (omega (arith, demands-small B sound)) s (λ p b. h demands refl p 0 b (lit< tt)),
       ))
       (λ S t l h. (
-        holds-keep (tables B) (cuts ∷ []) (capacities ∷ blanks ∷ []) refl (cutBlock (B .m) S) (cut-frame S) t (h .0),
+        holds-keep (tables B) (cuts ∷ []) (capacities ∷ zeroCells ∷ []) refl (cutBlock (B .m) S) (cut-frame S) t (h .0),
         λ R a. keep (among (cuts ∷ [])) (cutBlock (B .m) S) (Subset R) t (cut-frame S) refl ∙ h .1 R a,
       ))
       (λ S j t a b h. rw (lt-one b) (cut-value S t a h))

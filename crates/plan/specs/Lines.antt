@@ -18,7 +18,7 @@ use Rattle.plan.specs.Orders.{constant, sum, difference, Name, same, run
 use Rattle.plan.specs.Residues.{plus-small, minus-small, times-on, min-small}
 use Rattle.plan.specs.Loops.{loop, run-append, loop-invariant, among, writes, writes-append, writes-loop, keep, keep-loop, eqb-same, loop-own}
 use Rattle.plan.specs.Holds.{Holds, Phase, holds-keep, holds-part, fill-column, fill-after}
-use Rattle.plan.specs.Names.{capacities, blanks, places, subsets, cuts, uses, placements, slacks, flows, temporaries, Blank, Temporary, Capacity, Flow, Subset, Placement, Slack}
+use Rattle.plan.specs.Names.{capacities, zeroCells, memberships, subsets, cuts, uses, placements, slacks, flows, temporaries, ZeroCell, Temporary, Capacity, Flow, Subset, Placement, Slack}
 use Rattle.plan.specs.Subsets.{leaves, subsetSum}
 use Rattle.plan.specs.Running.{accumulate, gather, Lowers, lower, lowered, subset-sums}
 use Rattle.plan.specs.Values.{tables, cut, usedAmount, placement, slack, restOf, flowOf, takenOf, slackAfter, lineFlow}
@@ -46,23 +46,23 @@ module _ (B : Book) (sound : Sound B) (theory : Theory B) where
   -- ---- what is used in each pool
 
   abbrev Amounts : State → Type 0
-  Amounts = Holds (tables B) (places ∷ uses ∷ [])
+  Amounts = Holds (tables B) (memberships ∷ uses ∷ [])
 
   placement-value : (p : ℕ) (t : State) → p < B .m → Amounts t → run (placementBlock (B .n) p) t (Placement p) ≡ placement B p
   unfolding placement
   placement-value p t b h =
       gather Amounts (Placement p) (loop (B .n) (placementTurn p)) (placement B p)
-      (holds-keep (tables B) (placements ∷ []) (places ∷ uses ∷ []) refl (constant (Placement p) 0 ∷ []) refl)
+      (holds-keep (tables B) (placements ∷ []) (memberships ∷ uses ∷ []) refl (constant (Placement p) 0 ∷ []) refl)
       (accumulate Amounts (Placement p) (B .n) (placementTurn p) (λ i. on (eqb (poolIndex B i) p) (usedAmount B i))
       (λ i l r g c. (
-        holds-keep (tables B) (placements ∷ temporaries ∷ []) (places ∷ uses ∷ []) refl (placementTurn p i) refl r g,
-        rw (eqb-same p, g places refl i p l b, g uses refl i 0 l (lit< tt), times-on (eqb (poolIndex B i) p) (usedAmount B i) (omega (arith, used-small B sound theory i l)))
+        holds-keep (tables B) (placements ∷ temporaries ∷ []) (memberships ∷ uses ∷ []) refl (placementTurn p i) refl r g,
+        rw (eqb-same p, g memberships refl i p l b, g uses refl i 0 l (lit< tt), times-on (eqb (poolIndex B i) p) (usedAmount B i) (omega (arith, used-small B sound theory i l)))
             (plus-small (r (Placement p)) (on (eqb (poolIndex B i) p) (usedAmount B i)) c),
       )))
       t h (omega (arith, placement-small B sound theory p)) .1
 
-  pub placement-phase : Phase (tables B) (places ∷ uses ∷ []) placements (temporaries ∷ []) (loop (B .m) (placementBlock (B .n)))
-  placement-phase = fill-column (tables B) (places ∷ uses ∷ []) placements (temporaries ∷ []) refl refl refl (placementBlock (B .n))
+  pub placement-phase : Phase (tables B) (memberships ∷ uses ∷ []) placements (temporaries ∷ []) (loop (B .m) (placementBlock (B .n)))
+  placement-phase = fill-column (tables B) (memberships ∷ uses ∷ []) placements (temporaries ∷ []) refl refl refl (placementBlock (B .n))
       (λ p. rw (eqb-same p) (writes-loop _ (B .n) (placementTurn p) (λ i _. rw (eqb-same p)))) placement-value
 
   -- ---- the slacks before the first line
@@ -89,7 +89,7 @@ module _ (B : Book) (sound : Sound B) (theory : Theory B) where
   -- ---- one line, a to b, with slacks x
 
   abbrev lineReads : List ℕ
-  lineReads = capacities ∷ blanks ∷ []
+  lineReads = capacities ∷ zeroCells ∷ []
 
   module _ (x : ℕ → ℕ) (l a b : ℕ) (la : a < B .m) (lb : b < B .m) (small : (S : ℕ) → x S ≤ cutTotal) (fits : (S : ℕ) → S < 2 ^ B .m → takenOf B x a b S ≤ x S) where
     abbrev Slacks : State → Type 0
@@ -111,11 +111,11 @@ module _ (B : Book) (sound : Sound B) (theory : Theory B) where
     rest-value : (t : State) → Slacks t → Slacks (run (restPart (B .m) a b) t) × (run (restPart (B .m) a b) t (Temporary 2) ≡ restOf B x a b)
     unfolding restOf
     rest-value t g =
-        let one : Block = sum (Temporary 2) (Capacity a b) Blank ∷ [] in
+        let one : Block = sum (Temporary 2) (Capacity a b) ZeroCell ∷ [] in
         let u : State = run one t in
         let least : ℕ → ℕ = λ c. minTo c (2 ^ B .m) (λ S. cond (leaves S a b) (x S) (capacity B a b)) in
         let e : u (Temporary 2) ≡ capacity B a b
-        = rw (g .0 capacities refl a b la lb, g .0 blanks refl 0 0 (lit< tt) (lit< tt)) (omega (arith, sound .capacity-small a b la lb)) in
+        = rw (g .0 capacities refl a b la lb, g .0 zeroCells refl 0 0 (lit< tt) (lit< tt)) (omega (arith, sound .capacity-small a b la lb)) in
         let r : Slacks (run (loop (2 ^ B .m) (restTurn a b)) u) × (run (loop (2 ^ B .m) (restTurn a b)) u (Temporary 2) ≡ least (u (Temporary 2)))
         = lower Slacks (Temporary 2) (2 ^ B .m) (restTurn a b) (λ S. cond (leaves S a b) (x S) (capacity B a b)) rest-lowers u (slacks-keep one refl t g) (omega (arith, sound .capacity-small a b la lb)) in
         (r .0, r .1 ∙ ap least e)
@@ -138,7 +138,7 @@ module _ (B : Book) (sound : Sound B) (theory : Theory B) where
         taken : (v w : Bool) → u (takenCell v w l) ≡ cond v (restOf B x a b) (on w (flowOf B x a b))
         taken true w = kept (Temporary 2) refl ∙ r
         taken false true = kept (Flow l) refl ∙ f
-        taken false false = kept Blank refl ∙ g .0 blanks refl 0 0 (lit< tt) (lit< tt)
+        taken false false = kept ZeroCell refl ∙ g .0 zeroCells refl 0 0 (lit< tt) (lit< tt)
 
     rest-le : restOf B x a b ≤ capacity B a b
     unfolding restOf
@@ -190,11 +190,11 @@ module _ (B : Book) (sound : Sound B) (theory : Theory B) where
       go q (inl e) f k = rw e f
       go q (inr c) f k = k q (omega arith) ∙ i .2 q c
 
-  pub flow-phase : Phase (tables B) (slacks ∷ capacities ∷ blanks ∷ []) flows (temporaries ∷ slacks ∷ []) (loop (B .m * B .m) (lineBlock (B .m)))
+  pub flow-phase : Phase (tables B) (slacks ∷ capacities ∷ zeroCells ∷ []) flows (temporaries ∷ slacks ∷ []) (loop (B .m * B .m) (lineBlock (B .m)))
   unfolding slackAfter
   flow-phase = record {
     fills = λ s h l j a b. rw (lt-one b)
         (loop-invariant Fixed (B .m * B .m) (lineBlock (B .m)) s
-        (holds-part (tables B) (slacks ∷ capacities ∷ blanks ∷ []) lineReads refl s h, λ S c. h slacks refl S 0 c (lit< tt), λ q c. absurd (not-suc-le-zero c)) line-turn .2 l a);
+        (holds-part (tables B) (slacks ∷ capacities ∷ zeroCells ∷ []) lineReads refl s h, λ S c. h slacks refl S 0 c (lit< tt), λ q c. absurd (not-suc-le-zero c)) line-turn .2 l a);
     frame = writes-loop _ (B .m * B .m) (lineBlock (B .m)) (λ l _. line-frame (B .m) l (l / B .m) (l % B .m));
   }

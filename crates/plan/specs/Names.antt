@@ -28,8 +28,8 @@ abbrev pub temporaries : ℕ
 temporaries = 5
 
 -- one cell that no order of the work writes
-abbrev pub blanks : ℕ
-blanks = 6
+abbrev pub zeroCells : ℕ
+zeroCells = 6
 
 abbrev pub units : ℕ
 units = 7
@@ -46,8 +46,8 @@ sides = 10
 abbrev pub sizes : ℕ
 sizes = 11
 
-abbrev pub rates : ℕ
-rates = 12
+abbrev pub positivePrices : ℕ
+positivePrices = 12
 
 abbrev pub doubles : ℕ
 doubles = 13
@@ -58,11 +58,11 @@ keys = 14
 abbrev pub nexts : ℕ
 nexts = 15
 
-abbrev pub places : ℕ
-places = 16
+abbrev pub memberships : ℕ
+memberships = 16
 
-abbrev pub weights : ℕ
-weights = 17
+abbrev pub poolSizes : ℕ
+poolSizes = 17
 
 abbrev pub demands : ℕ
 demands = 18
@@ -73,17 +73,17 @@ subsets = 19
 abbrev pub cuts : ℕ
 cuts = 20
 
-abbrev pub aheads : ℕ
-aheads = 21
+abbrev pub sizesBefore : ℕ
+sizesBefore = 21
 
-abbrev pub lows : ℕ
-lows = 22
+abbrev pub ranksBefore : ℕ
+ranksBefore = 22
 
-abbrev pub reaches : ℕ
-reaches = 23
+abbrev pub sizesWith : ℕ
+sizesWith = 23
 
-abbrev pub highs : ℕ
-highs = 24
+abbrev pub ranksWith : ℕ
+ranksWith = 24
 
 abbrev pub uses : ℕ
 uses = 25
@@ -97,8 +97,8 @@ slacks = 27
 abbrev pub offers : ℕ
 offers = 28
 
-abbrev pub peaks : ℕ
-peaks = 29
+abbrev pub highestOffers : ℕ
+highestOffers = 29
 
 -- the first scratch family, and the count of all families
 abbrev pub firstScratchFamily : ℕ
@@ -159,8 +159,8 @@ abbrev pub Temporary : ℕ → Name
 Temporary k = at temporaries k 0
 
 -- 0, 1, and what makes a price positive
-abbrev pub Blank : Name
-Blank = at blanks 0 0
+abbrev pub ZeroCell : Name
+ZeroCell = at zeroCells 0 0
 
 abbrev pub One : Name
 One = at units 0 0
@@ -179,8 +179,8 @@ Side i = at sides i 0
 abbrev pub Size : ℕ → Name
 Size i = at sizes i 0
 
-abbrev pub Rate : ℕ → Name
-Rate i = at rates i 0
+abbrev pub PositivePrice : ℕ → Name
+PositivePrice i = at positivePrices i 0
 
 abbrev pub Double : ℕ → Name
 Double i = at doubles i 0
@@ -192,11 +192,11 @@ abbrev pub Next : ℕ → Name
 Next i = at nexts i 0
 
 -- 1 if bid i is in pool p; its size there
-abbrev pub Place : ℕ → ℕ → Name
-Place i p = at places i p
+abbrev pub Membership : ℕ → ℕ → Name
+Membership i p = at memberships i p
 
-abbrev pub Weight : ℕ → ℕ → Name
-Weight i p = at weights i p
+abbrev pub PoolSize : ℕ → ℕ → Name
+PoolSize i p = at poolSizes i p
 
 -- what is bid for in pool p; a sum over a set of pools; what a set of pools can take
 abbrev pub Demand : ℕ → Name
@@ -209,17 +209,17 @@ abbrev pub Cut : ℕ → Name
 Cut S = at cuts S 0
 
 -- the sizes in pool p of the bids before bid i, and with bid i; the rank of those bids; the used amount of bid i
-abbrev pub Ahead : ℕ → ℕ → Name
-Ahead i p = at aheads i p
+abbrev pub SizeBefore : ℕ → ℕ → Name
+SizeBefore i p = at sizesBefore i p
 
-abbrev pub Low : ℕ → Name
-Low i = at lows i 0
+abbrev pub RankBefore : ℕ → Name
+RankBefore i = at ranksBefore i 0
 
-abbrev pub Reach : ℕ → ℕ → Name
-Reach i p = at reaches i p
+abbrev pub SizeWith : ℕ → ℕ → Name
+SizeWith i p = at sizesWith i p
 
-abbrev pub High : ℕ → Name
-High i = at highs i 0
+abbrev pub RankWith : ℕ → Name
+RankWith i = at ranksWith i 0
 
 abbrev pub Used : ℕ → Name
 Used i = at uses i 0
@@ -235,5 +235,5 @@ Slack S = at slacks S 0
 abbrev pub Offer : ℕ → Name
 Offer i = at offers i 0
 
-abbrev pub Peak : ℕ → Name
-Peak p = at peaks p 0
+abbrev pub HighestOffer : ℕ → Name
+HighestOffer p = at highestOffers p 0

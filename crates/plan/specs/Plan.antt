@@ -16,7 +16,7 @@ use Rattle.definitions.specs.Machine.{WellFormed}
 use Rattle.laws.specs.Tests.{Lt?, less, more, lt?}
 use Rattle.plan.specs.Orders.{OrderOn, constant, operate, Operation, adding, subtracting, multiplying, comparing, equating, target, orderOf, renamed, Name, at, family}
 use Rattle.plan.specs.Loops.{loop}
-use Rattle.plan.specs.Names.{amounts, temporaries, familyCount, rowsOf, columnsOf, Blank}
+use Rattle.plan.specs.Names.{amounts, temporaries, familyCount, rowsOf, columnsOf, ZeroCell}
 use Rattle.plan.specs.Layout.{base, address, address-below, base-grows}
 use Rattle.plan.specs.Tree.{flat, size, entry, flat-length, flat-entry, length-loop, single-entry, All, all-append, all-loop, all-map, every-flat}
 use Rattle.plan.specs.Work.{work}
@@ -53,7 +53,7 @@ module _ (n m : ℕ) where
   unfoldable pub planLength : ℕ
   planLength = n * n * (1 + 2 * m) + n * (29 + 17 * m + 12 * 2 ^ m) + (8 + 11 * m + 2 * (m * m) + 2 ^ m * (7 + 6 * (m * m)))
 
-  -- ---- the layout's places
+  -- ---- where results and scratch begin, and where the names end
 
   pub from-result : from amounts ≡ firstResult n m
   unfolding from sumTo
@@ -87,7 +87,7 @@ module _ (n m : ℕ) where
 
   -- the named order at a position of the work
   unfoldable pub workAt : ℕ → OrderOn Name
-  workAt x = entry (work n m) x (constant Blank 0)
+  workAt x = entry (work n m) x (constant ZeroCell 0)
 
   unfoldable pub workLength : ℕ
   workLength = size (work n m)
@@ -95,10 +95,10 @@ module _ (n m : ℕ) where
   unfoldable pub orderAt : ℕ → Order
   orderAt x = orderOf (cond (ltb x workLength) (renamed cellOf (workAt x)) (constant (firstScratch n m + (x - workLength)) 0))
 
-  plan-entry-blank : 0 < m → (x : ℕ) → x < planLength → getD plan x (orderOf (renamed cellOf (constant Blank 0))) ≡ orderAt x
+  plan-entry-zero-cell : 0 < m → (x : ℕ) → x < planLength → getD plan x (orderOf (renamed cellOf (constant ZeroCell 0))) ≡ orderAt x
   unfolding plan orderAt workAt workLength
-  plan-entry-blank h x l =
-      List·getD-map orderOf numbered x (renamed cellOf (constant Blank 0)) ∙ ap orderOf (go (lt? x (size (work n m))))
+  plan-entry-zero-cell h x l =
+      List·getD-map orderOf numbered x (renamed cellOf (constant ZeroCell 0)) ∙ ap orderOf (go (lt? x (size (work n m))))
     where
       worked : List (OrderOn ℕ)
       worked = map (renamed cellOf) (flat (work n m))
@@ -107,20 +107,20 @@ module _ (n m : ℕ) where
       worked-length = length-map (flat (work n m)) (renamed cellOf) ∙ flat-length (work n m) (work-fair n m h)
 
       go : {t : Bool} → Lt? x (size (work n m)) t
-          → getD numbered x (renamed cellOf (constant Blank 0)) ≡ cond t (renamed cellOf (entry (work n m) x (constant Blank 0))) (constant (firstScratch n m + (x - size (work n m))) 0)
+          → getD numbered x (renamed cellOf (constant ZeroCell 0)) ≡ cond t (renamed cellOf (entry (work n m) x (constant ZeroCell 0))) (constant (firstScratch n m + (x - size (work n m))) 0)
       go (less c) =
           List·getD-append worked (loop scratchCount zeroBlock) _ x (omega (arith, worked-length))
-          ∙ List·getD-map (renamed cellOf) (flat (work n m)) x (constant Blank 0)
-          ∙ ap (renamed cellOf) (flat-entry (work n m) (work-fair n m h) x (constant Blank 0) c)
+          ∙ List·getD-map (renamed cellOf) (flat (work n m)) x (constant ZeroCell 0)
+          ∙ ap (renamed cellOf) (flat-entry (work n m) (work-fair n m h) x (constant ZeroCell 0) c)
       go (more c) =
           let w : x ≡ length worked + (x - size (work n m)) = omega (arith, worked-length) in
-          ap (λ (y : ℕ). getD numbered y (renamed cellOf (constant Blank 0))) w
-          ∙ getD-append-add worked (loop scratchCount zeroBlock) (x - size (work n m)) (renamed cellOf (constant Blank 0))
-          ∙ single-entry scratchCount (λ k. constant (firstScratch n m + k) 0) (x - size (work n m)) (renamed cellOf (constant Blank 0)) (omega (arith, work-size))
+          ap (λ (y : ℕ). getD numbered y (renamed cellOf (constant ZeroCell 0))) w
+          ∙ getD-append-add worked (loop scratchCount zeroBlock) (x - size (work n m)) (renamed cellOf (constant ZeroCell 0))
+          ∙ single-entry scratchCount (λ k. constant (firstScratch n m + k) 0) (x - size (work n m)) (renamed cellOf (constant ZeroCell 0)) (omega (arith, work-size))
 
   -- whatever stands for an order past the end
   pub plan-entry : 0 < m → (x : ℕ) → x < planLength → (d : Order) → getD plan x d ≡ orderAt x
-  plan-entry h x l d = entry-any plan x d _ (omega (arith, plan-length h)) ∙ plan-entry-blank h x l
+  plan-entry h x l d = entry-any plan x d _ (omega (arith, plan-length h)) ∙ plan-entry-zero-cell h x l
 
   -- ---- every order is one of the machine's, and writes a result or scratch
 

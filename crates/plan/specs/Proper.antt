@@ -9,7 +9,7 @@ use Rattle.definitions.specs.Limits.{modulus}
 use Rattle.laws.specs.Tests.{Eq?, same, diff, eq?}
 use Rattle.plan.specs.Orders.{OrderOn, constant, operate, Name, at, family}
 use Rattle.plan.specs.Layout.{Named}
-use Rattle.plan.specs.Names.{amounts, lows, highs, familyCount, rowsOf, columnsOf, Capacity, Temporary, Blank, Demand, Ahead, Reach, Placement}
+use Rattle.plan.specs.Names.{amounts, ranksBefore, ranksWith, familyCount, rowsOf, columnsOf, Capacity, Temporary, ZeroCell, Demand, SizeBefore, SizeWith, Placement}
 use Rattle.plan.specs.Subsets.{leaves, lowest, others, lowest-below, others-below}
 use Rattle.plan.specs.Running.{subsetOrder, lowered}
 use Rattle.plan.specs.Blocks.{testAt, testOrder, restCell, takenCell}
@@ -27,7 +27,7 @@ module _ (n m : ℕ) where
   Proper (constant d k) = Valid d × (amounts ≤ family d) × (k < modulus)
   Proper (operate op d a b) = Valid d × (amounts ≤ family d) × Valid a × Valid b
 
-  chosen-valid : (x : Bool) (c : Name) → Valid c → Valid (cond x c Blank)
+  chosen-valid : (x : Bool) (c : Name) → Valid c → Valid (cond x c ZeroCell)
   chosen-valid true c h = h
   chosen-valid false c h = omega arith
 
@@ -87,7 +87,7 @@ module _ (n m : ℕ) where
   cut-proper = ((λ i l p b. omega arith), ((λ i l p b. omega arith), ((λ p b. (omega arith, λ i l. omega arith)), (subset-proper Demand (λ p b. omega arith), λ S l. (omega arith, λ a x b y. ((omega arith, omega arith, omega arith, chosen-valid (leaves S a b) (Capacity a b) (omega arith)), tt))))))
 
   ranks-proper : Every Proper (rankTrees n m)
-  ranks-proper = ((λ i l. ((λ p b. omega arith), λ j k. (test-proper i j l k, λ p b. omega arith))), ((λ i l. rank-proper (Ahead i) lows i (λ p b. omega arith) (omega arith) (omega arith)), ((λ i l p b. omega arith), ((λ i l. rank-proper (Reach i) highs i (λ p b. omega arith) (omega arith) (omega arith)), ((λ i l. omega arith), λ i l. omega arith)))))
+  ranks-proper = ((λ i l. ((λ p b. omega arith), λ j k. (test-proper i j l k, λ p b. omega arith))), ((λ i l. rank-proper (SizeBefore i) ranksBefore i (λ p b. omega arith) (omega arith) (omega arith)), ((λ i l p b. omega arith), ((λ i l. rank-proper (SizeWith i) ranksWith i (λ p b. omega arith) (omega arith) (omega arith)), ((λ i l. omega arith), λ i l. omega arith)))))
 
   flow-proper : Every Proper (flowTree n m)
   flow-proper = ((λ p b. (omega arith, λ i l. omega arith)), ((subset-proper Placement (λ p b. omega arith), λ S l. omega arith), line-proper))

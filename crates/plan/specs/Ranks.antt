@@ -19,11 +19,11 @@ use Rattle.plan.specs.Orders.{constant, Name, at, same, run, State}
 use Rattle.plan.specs.Residues.{plus-small, minus-small, times-on, less-small, min-small}
 use Rattle.plan.specs.Loops.{loop, run-append, loop-invariant, among, writes, writes-append, writes-loop, keep, eqb-same, loop-own}
 use Rattle.plan.specs.Holds.{Holds, Phase, holds-keep, holds-part, touches, touches-among, fill-column, fill-rows, fill-cells}
-use Rattle.plan.specs.Names.{blanks, sides, sizes, doubles, keys, nexts, weights, subsets, cuts, aheads, lows, reaches, highs, uses, amounts, temporaries, Temporary, Weight, Subset, Ahead, Reach}
+use Rattle.plan.specs.Names.{zeroCells, sides, sizes, doubles, keys, nexts, poolSizes, subsets, cuts, sizesBefore, ranksBefore, sizesWith, ranksWith, uses, amounts, temporaries, Temporary, PoolSize, Subset, SizeBefore, SizeWith}
 use Rattle.plan.specs.Subsets.{member, complement, subsetSum, subset-outside}
 use Rattle.plan.specs.Running.{Lowers, lower, subset-sums}
 use Rattle.plan.specs.Values.{tables, rate, key, weight, cut, ahead, reach, rank, usedAmount, acceptedAmount}
-use Rattle.plan.specs.Blocks.{Block, testAt, testOrder, gain, aheadTurn, aheadStart, aheadBlock, subsetBlocks, costTurn, costLoop, rankBlock, lowBlock, reachBlock, highBlock, useBlock, amountBlock}
+use Rattle.plan.specs.Blocks.{Block, testAt, testOrder, gainTurn, sizeBeforeTurn, sizeBeforeStart, sizeBeforeBlock, subsetBlocks, costTurn, costLoop, rankBlock, rankBeforeBlock, sizeWithBlock, rankWithBlock, useBlock, amountBlock}
 use Rattle.plan.specs.Merit.{keyTest, test-is-before}
 use Rattle.plan.specs.Cuts.{subsets-frame}
 use Rattle.plan.specs.Bounds.{Theory, on-le, sizeTotal, sum-limit, weight-small, ahead-small, reach-small, cost-small, rank-small}
@@ -41,13 +41,13 @@ accept-small true v x h k =
 accept-small false v x h k = omega arith
 
 module _ (B : Book) (sound : Sound B) where
-  -- ---- the sizes ahead of bid i, pool by pool
+  -- ---- the sizes of the bids before bid i, pool by pool
 
-  abbrev aheadReads : List ℕ
-  aheadReads = doubles ∷ keys ∷ nexts ∷ weights ∷ blanks ∷ []
+  abbrev sizeBeforeReads : List ℕ
+  sizeBeforeReads = doubles ∷ keys ∷ nexts ∷ poolSizes ∷ zeroCells ∷ []
 
   abbrev Compared : State → Type 0
-  Compared = Holds (tables B) aheadReads
+  Compared = Holds (tables B) sizeBeforeReads
 
   test-writes : (W : Name → Bool) (i j : ℕ) → W (Temporary 0) ≡ true → writes W (testOrder i j ∷ []) ≡ true
   test-writes W i j e = go (ltb j i) (ltb i j)
@@ -70,63 +70,63 @@ module _ (B : Book) (sound : Sound B) where
       go false true =
           rw (h doubles refl j 0 b (lit< tt), h keys refl i 0 a (lit< tt))
           (less-small (2 * rate B j) (key B i) (omega (arith, sound .price-small j b)) (omega (arith, side-small (purchase B i), sound .price-small i a)))
-      go false false = rw (h blanks refl 0 0 (lit< tt) (lit< tt))
+      go false false = rw (h zeroCells refl 0 0 (lit< tt) (lit< tt))
 
-  turn-writes : (W : Name → Bool) (i j : ℕ) → W (Temporary 0) ≡ true → W (Temporary 1) ≡ true → ((p : ℕ) → W (Ahead i p) ≡ true) → writes W (aheadTurn (B .m) i j) ≡ true
-  turn-writes W i j e f g = writes-append W (testOrder i j ∷ []) (loop (B .m) (gain i j)) (test-writes W i j e) (writes-loop W (B .m) (gain i j) (λ p _. rw (f, g p)))
+  turn-writes : (W : Name → Bool) (i j : ℕ) → W (Temporary 0) ≡ true → W (Temporary 1) ≡ true → ((p : ℕ) → W (SizeBefore i p) ≡ true) → writes W (sizeBeforeTurn (B .m) i j) ≡ true
+  turn-writes W i j e f g = writes-append W (testOrder i j ∷ []) (loop (B .m) (gainTurn i j)) (test-writes W i j e) (writes-loop W (B .m) (gainTurn i j) (λ p _. rw (f, g p)))
 
   -- the gains of all pools, from the test's outcome
-  gain-value : (i j p : ℕ) → p < B .m → (t : State) → run (loop (B .m) (gain i j)) t (Ahead i p) ≡ plus (t (Ahead i p)) (times (t (Temporary 0)) (t (Weight j p)))
+  gain-value : (i j p : ℕ) → p < B .m → (t : State) → run (loop (B .m) (gainTurn i j)) t (SizeBefore i p) ≡ plus (t (SizeBefore i p)) (times (t (Temporary 0)) (t (PoolSize j p)))
   gain-value i j p l t =
-      let own : (run (loop (B .m) (gain i j)) t (Ahead i p) ≡ run (gain i j p) (run (loop p (gain i j)) t) (Ahead i p)) × (run (loop p (gain i j)) t (Ahead i p) ≡ t (Ahead i p))
-      = loop-own (B .m) (gain i j) (Ahead i p) t p l (λ q r ne. rw (eqb-same i, ne-eqb q p ne)) in
+      let own : (run (loop (B .m) (gainTurn i j)) t (SizeBefore i p) ≡ run (gainTurn i j p) (run (loop p (gainTurn i j)) t) (SizeBefore i p)) × (run (loop p (gainTurn i j)) t (SizeBefore i p) ≡ t (SizeBefore i p))
+      = loop-own (B .m) (gainTurn i j) (SizeBefore i p) t p l (λ q r ne. rw (eqb-same i, ne-eqb q p ne)) in
       own .0 ∙ rw (
         eqb-same i,
         eqb-same p,
         own .1,
-        keep (among (aheads ∷ temporaries ∷ [])) (loop p (gain i j)) (Weight j p) t (writes-loop _ p (gain i j) (λ q _. refl)) refl,
-        keep (λ c. not (same (Temporary 0) c)) (loop p (gain i j)) (Temporary 0) t (writes-loop _ p (gain i j) (λ q _. refl)) refl,
+        keep (among (sizesBefore ∷ temporaries ∷ [])) (loop p (gainTurn i j)) (PoolSize j p) t (writes-loop _ p (gainTurn i j) (λ q _. refl)) refl,
+        keep (λ c. not (same (Temporary 0) c)) (loop p (gainTurn i j)) (Temporary 0) t (writes-loop _ p (gainTurn i j) (λ q _. refl)) refl,
       )
 
-  turn-frame : (i j : ℕ) → writes (among (aheads ∷ temporaries ∷ [])) (aheadTurn (B .m) i j) ≡ true
-  turn-frame i j = turn-writes (among (aheads ∷ temporaries ∷ [])) i j refl refl (λ p. refl)
+  turn-frame : (i j : ℕ) → writes (among (sizesBefore ∷ temporaries ∷ [])) (sizeBeforeTurn (B .m) i j) ≡ true
+  turn-frame i j = turn-writes (among (sizesBefore ∷ temporaries ∷ [])) i j refl refl (λ p. refl)
 
   abbrev Gained : (i k : ℕ) → State → Type 0
-  Gained i k t = Compared t × ((p : ℕ) → p < B .m → t (Ahead i p) ≡ sumTo k (λ j. on (before B j i) (weight B j p)))
+  Gained i k t = Compared t × ((p : ℕ) → p < B .m → t (SizeBefore i p) ≡ sumTo k (λ j. on (before B j i) (weight B j p)))
 
-  ahead-turn : (i j : ℕ) (t : State) → i < B .n → j < B .n → Gained i j t → Gained i (suc j) (run (aheadTurn (B .m) i j) t)
+  size-before-turn : (i j : ℕ) (t : State) → i < B .n → j < B .n → Gained i j t → Gained i (suc j) (run (sizeBeforeTurn (B .m) i j) t)
   unfolding sumTo ahead
-  ahead-turn i j t a b g = (
-    holds-keep (tables B) (aheads ∷ temporaries ∷ []) aheadReads refl (aheadTurn (B .m) i j) (turn-frame i j) t (g .0),
+  size-before-turn i j t a b g = (
+    holds-keep (tables B) (sizesBefore ∷ temporaries ∷ []) sizeBeforeReads refl (sizeBeforeTurn (B .m) i j) (turn-frame i j) t (g .0),
     λ p l.
         let f : ℕ → ℕ = λ k. on (before B k i) (weight B k p) in
         gain-value i j p l (run (testOrder i j ∷ []) t)
         ∙ rw (
           test-value i j a b t (g .0),
-          keep (among (temporaries ∷ [])) (testOrder i j ∷ []) (Ahead i p) t (test-writes (among (temporaries ∷ [])) i j refl) refl,
-          keep (among (temporaries ∷ [])) (testOrder i j ∷ []) (Weight j p) t (test-writes (among (temporaries ∷ [])) i j refl) refl,
-          g .0 weights refl j p b l,
+          keep (among (temporaries ∷ [])) (testOrder i j ∷ []) (SizeBefore i p) t (test-writes (among (temporaries ∷ [])) i j refl) refl,
+          keep (among (temporaries ∷ [])) (testOrder i j ∷ []) (PoolSize j p) t (test-writes (among (temporaries ∷ [])) i j refl) refl,
+          g .0 poolSizes refl j p b l,
           g .1 p l,
           times-on (before B j i) (weight B j p) (omega (arith, weight-small B sound j p b)),
         )
         (plus-small (sumTo j f) (f j) (omega (arith, sum-prefix (suc j) (B .n) f b, ahead-small B sound i p))),
   )
 
-  ahead-value : (i p : ℕ) (t : State) → i < B .n → p < B .m → Compared t → run (aheadBlock (B .n) (B .m) i) t (Ahead i p) ≡ ahead B i p
+  size-before-value : (i p : ℕ) (t : State) → i < B .n → p < B .m → Compared t → run (sizeBeforeBlock (B .n) (B .m) i) t (SizeBefore i p) ≡ ahead B i p
   unfolding sumTo ahead
-  ahead-value i p t a l h =
-      ap (λ (r : State). r (Ahead i p)) (run-append (loop (B .m) (aheadStart i)) (loop (B .n) (aheadTurn (B .m) i)) t)
-      ∙ loop-invariant (Gained i) (B .n) (aheadTurn (B .m) i) (run (loop (B .m) (aheadStart i)) t) (
-        holds-keep (tables B) (aheads ∷ []) aheadReads refl (loop (B .m) (aheadStart i)) (writes-loop _ (B .m) (aheadStart i) (λ q _. refl)) t h,
-        λ q b. loop-own (B .m) (aheadStart i) (Ahead i q) t q b (λ k r ne. rw (eqb-same i, ne-eqb k q ne)) .0 ∙ rw (eqb-same i, eqb-same q),
+  size-before-value i p t a l h =
+      ap (λ (r : State). r (SizeBefore i p)) (run-append (loop (B .m) (sizeBeforeStart i)) (loop (B .n) (sizeBeforeTurn (B .m) i)) t)
+      ∙ loop-invariant (Gained i) (B .n) (sizeBeforeTurn (B .m) i) (run (loop (B .m) (sizeBeforeStart i)) t) (
+        holds-keep (tables B) (sizesBefore ∷ []) sizeBeforeReads refl (loop (B .m) (sizeBeforeStart i)) (writes-loop _ (B .m) (sizeBeforeStart i) (λ q _. refl)) t h,
+        λ q b. loop-own (B .m) (sizeBeforeStart i) (SizeBefore i q) t q b (λ k r ne. rw (eqb-same i, ne-eqb k q ne)) .0 ∙ rw (eqb-same i, eqb-same q),
       )
-      (λ j r b. ahead-turn i j r a b) .1 p l
+      (λ j r b. size-before-turn i j r a b) .1 p l
 
-  pub ahead-phase : Phase (tables B) aheadReads aheads (temporaries ∷ []) (loop (B .n) (aheadBlock (B .n) (B .m)))
-  ahead-phase = fill-rows (tables B) aheadReads aheads (temporaries ∷ []) refl refl (aheadBlock (B .n) (B .m))
-      (λ i. writes-append (touches aheads i (temporaries ∷ [])) (loop (B .m) (aheadStart i)) _ (writes-loop _ (B .m) (aheadStart i) (λ q _. rw (eqb-same i)))
-      (writes-loop _ (B .n) (aheadTurn (B .m) i) (λ j _. turn-writes (touches aheads i (temporaries ∷ [])) i j refl refl (λ p. rw (eqb-same i)))))
-      ahead-value
+  pub size-before-phase : Phase (tables B) sizeBeforeReads sizesBefore (temporaries ∷ []) (loop (B .n) (sizeBeforeBlock (B .n) (B .m)))
+  size-before-phase = fill-rows (tables B) sizeBeforeReads sizesBefore (temporaries ∷ []) refl refl (sizeBeforeBlock (B .n) (B .m))
+      (λ i. writes-append (touches sizesBefore i (temporaries ∷ [])) (loop (B .m) (sizeBeforeStart i)) _ (writes-loop _ (B .m) (sizeBeforeStart i) (λ q _. rw (eqb-same i)))
+      (writes-loop _ (B .n) (sizeBeforeTurn (B .m) i) (λ j _. turn-writes (touches sizesBefore i (temporaries ∷ [])) i j refl refl (λ p. rw (eqb-same i)))))
+      size-before-value
 
   -- ---- the rank of bids with sums x in cells X, in cell i of family u
 
@@ -185,25 +185,25 @@ module _ (B : Book) (sound : Sound B) where
         ∙ lower Summed d (2 ^ B .m) (costTurn (B .m) d) cost cost-lowers t (summed-keep (constant d greatestPositive ∷ []) (rw (no-temporary, eqb-same u)) r g) (omega arith) .1
         ∙ ap (λ (v : ℕ). minTo v (2 ^ B .m) cost) f
 
-  pub low-phase : Phase (tables B) (aheads ∷ cuts ∷ []) lows (temporaries ∷ subsets ∷ []) (loop (B .n) (lowBlock (B .m)))
-  low-phase = fill-column (tables B) (aheads ∷ cuts ∷ []) lows (temporaries ∷ subsets ∷ []) refl refl refl (lowBlock (B .m))
-      (λ i. rank-frame lows i (Ahead i) (λ S. rw (eqb-same i)) (rw (eqb-same i)))
+  pub rank-before-phase : Phase (tables B) (sizesBefore ∷ cuts ∷ []) ranksBefore (temporaries ∷ subsets ∷ []) (loop (B .n) (rankBeforeBlock (B .m)))
+  rank-before-phase = fill-column (tables B) (sizesBefore ∷ cuts ∷ []) ranksBefore (temporaries ∷ subsets ∷ []) refl refl refl (rankBeforeBlock (B .m))
+      (λ i. rank-frame ranksBefore i (SizeBefore i) (λ S. rw (eqb-same i)) (rw (eqb-same i)))
       (λ i t l h.
-      rank-value lows i refl refl refl (Ahead i) (λ p. refl) (ahead B i) (λ p _. omega (arith, ahead-small B sound i p)) t
-      (holds-part (tables B) (aheads ∷ cuts ∷ []) (cuts ∷ []) refl t h) (λ p b. h aheads refl i p l b))
+      rank-value ranksBefore i refl refl refl (SizeBefore i) (λ p. refl) (ahead B i) (λ p _. omega (arith, ahead-small B sound i p)) t
+      (holds-part (tables B) (sizesBefore ∷ cuts ∷ []) (cuts ∷ []) refl t h) (λ p b. h sizesBefore refl i p l b))
 
-  pub reach-phase : Phase (tables B) (aheads ∷ weights ∷ []) reaches [] (loop (B .n) (λ i. loop (B .m) (reachBlock i)))
+  pub size-with-phase : Phase (tables B) (sizesBefore ∷ poolSizes ∷ []) sizesWith [] (loop (B .n) (λ i. loop (B .m) (sizeWithBlock i)))
   unfolding reach
-  reach-phase = fill-cells (tables B) (aheads ∷ weights ∷ []) reaches [] refl refl reachBlock (λ i p. rw (eqb-same i, eqb-same p))
-      (λ i p t l b h. rw (eqb-same i, eqb-same p, h aheads refl i p l b, h weights refl i p l b)
+  size-with-phase = fill-cells (tables B) (sizesBefore ∷ poolSizes ∷ []) sizesWith [] refl refl sizeWithBlock (λ i p. rw (eqb-same i, eqb-same p))
+      (λ i p t l b h. rw (eqb-same i, eqb-same p, h sizesBefore refl i p l b, h poolSizes refl i p l b)
       (plus-small (ahead B i p) (weight B i p) (omega (arith, ahead-small B sound i p, weight-small B sound i p l))))
 
-  pub high-phase : Phase (tables B) (reaches ∷ cuts ∷ []) highs (temporaries ∷ subsets ∷ []) (loop (B .n) (highBlock (B .m)))
-  high-phase = fill-column (tables B) (reaches ∷ cuts ∷ []) highs (temporaries ∷ subsets ∷ []) refl refl refl (highBlock (B .m))
-      (λ i. rank-frame highs i (Reach i) (λ S. rw (eqb-same i)) (rw (eqb-same i)))
+  pub rank-with-phase : Phase (tables B) (sizesWith ∷ cuts ∷ []) ranksWith (temporaries ∷ subsets ∷ []) (loop (B .n) (rankWithBlock (B .m)))
+  rank-with-phase = fill-column (tables B) (sizesWith ∷ cuts ∷ []) ranksWith (temporaries ∷ subsets ∷ []) refl refl refl (rankWithBlock (B .m))
+      (λ i. rank-frame ranksWith i (SizeWith i) (λ S. rw (eqb-same i)) (rw (eqb-same i)))
       (λ i t l h.
-      rank-value highs i refl refl refl (Reach i) (λ p. refl) (reach B i) (λ p _. reach-small B sound i p l) t
-      (holds-part (tables B) (reaches ∷ cuts ∷ []) (cuts ∷ []) refl t h) (λ p b. h reaches refl i p l b))
+      rank-value ranksWith i refl refl refl (SizeWith i) (λ p. refl) (reach B i) (λ p _. reach-small B sound i p l) t
+      (holds-part (tables B) (sizesWith ∷ cuts ∷ []) (cuts ∷ []) refl t h) (λ p b. h sizesWith refl i p l b))
 
   -- ---- the amounts
 
@@ -220,10 +220,10 @@ module _ (B : Book) (sound : Sound B) where
   unfolding reach
   ahead-reach i p = omega arith
 
-  pub use-phase : Phase (tables B) (lows ∷ highs ∷ []) uses [] (loop (B .n) useBlock)
+  pub use-phase : Phase (tables B) (ranksBefore ∷ ranksWith ∷ []) uses [] (loop (B .n) useBlock)
   unfolding usedAmount
-  use-phase = fill-column (tables B) (lows ∷ highs ∷ []) uses [] refl refl refl useBlock (λ i. rw (eqb-same i))
-      (λ i t l h. rw (eqb-same i, h lows refl i 0 l (lit< tt), h highs refl i 0 l (lit< tt))
+  use-phase = fill-column (tables B) (ranksBefore ∷ ranksWith ∷ []) uses [] refl refl refl useBlock (λ i. rw (eqb-same i))
+      (λ i t l h. rw (eqb-same i, h ranksBefore refl i 0 l (lit< tt), h ranksWith refl i 0 l (lit< tt))
       (minus-small (rank B (reach B i)) (rank B (ahead B i)) (omega (arith, rank-small B sound (reach B i))) (rank-grows (ahead B i) (reach B i) (ahead-reach i))))
 
   pub amount-phase : Theory B → Phase (tables B) (sides ∷ sizes ∷ uses ∷ []) amounts (temporaries ∷ []) (loop (B .n) amountBlock)

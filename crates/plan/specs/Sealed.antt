@@ -18,7 +18,7 @@ use Rattle.laws.specs.Tests.{Lt?, less, more, lt?}
 use Rattle.laws.specs.AcceptedBook.{Sound}
 use Rattle.plan.specs.Orders.{at, State}
 use Rattle.plan.specs.Holds.{Holds, holds-add}
-use Rattle.plan.specs.Names.{bids, capacities, blanks}
+use Rattle.plan.specs.Names.{bids, capacities, zeroCells}
 use Rattle.plan.specs.Values.{tables, bidCell}
 use Rattle.plan.specs.Plan.{cellOf}
 use Rattle.plan.specs.Whole.{inputs}
@@ -37,33 +37,33 @@ module _ (B : Book) where
   abbrev capacityPart : List ℕ
   capacityPart = map residue (B .capacities)
 
-  abbrev blankPart : List ℕ
-  blankPart = replicate (cellCount - (length (B .bids) + length (B .capacities))) 0
+  abbrev zeroPart : List ℕ
+  zeroPart = replicate (cellCount - (length (B .bids) + length (B .capacities))) 0
 
-  parts : sealedSheet B ≡ bidPart ++ (capacityPart ++ blankPart)
+  parts : sealedSheet B ≡ bidPart ++ (capacityPart ++ zeroPart)
   unfolding sealedSheet
-  parts = append-assoc bidPart capacityPart blankPart
+  parts = append-assoc bidPart capacityPart zeroPart
 
   pub sealed-bid : (k : ℕ) → k < length (B .bids) → cell (sealedSheet B) k ≡ residue (getD (B .bids) k (pos 0))
   sealed-bid k h =
       ap (λ (l : List ℕ). cell l k) parts
-      ∙ List·getD-append bidPart (capacityPart ++ blankPart) 0 k (omega (arith, length-map (B .bids) residue))
+      ∙ List·getD-append bidPart (capacityPart ++ zeroPart) 0 k (omega (arith, length-map (B .bids) residue))
       ∙ List·getD-map residue (B .bids) k (pos 0)
 
   -- behind the bids
-  sealed-past : (k : ℕ) → cell (sealedSheet B) (length (B .bids) + k) ≡ cell (capacityPart ++ blankPart) k
+  sealed-past : (k : ℕ) → cell (sealedSheet B) (length (B .bids) + k) ≡ cell (capacityPart ++ zeroPart) k
   sealed-past k =
       ap (λ (l : List ℕ). cell l (length (B .bids) + k)) parts
-      ∙ ap (λ (n : ℕ). getD (bidPart ++ (capacityPart ++ blankPart)) (n + k) 0) (sym (length-map (B .bids) residue)) ∙ getD-append-add bidPart (capacityPart ++ blankPart) k 0
+      ∙ ap (λ (n : ℕ). getD (bidPart ++ (capacityPart ++ zeroPart)) (n + k) 0) (sym (length-map (B .bids) residue)) ∙ getD-append-add bidPart (capacityPart ++ zeroPart) k 0
 
   pub sealed-capacity : (k : ℕ) → k < length (B .capacities) → cell (sealedSheet B) (length (B .bids) + k) ≡ residue (getD (B .capacities) k (pos 0))
-  sealed-capacity k h = sealed-past k ∙ List·getD-append capacityPart blankPart 0 k (omega (arith, length-map (B .capacities) residue)) ∙ List·getD-map residue (B .capacities) k (pos 0)
+  sealed-capacity k h = sealed-past k ∙ List·getD-append capacityPart zeroPart 0 k (omega (arith, length-map (B .capacities) residue)) ∙ List·getD-map residue (B .capacities) k (pos 0)
 
-  pub sealed-blank : (k : ℕ) → cell (sealedSheet B) (length (B .bids) + (length (B .capacities) + k)) ≡ 0
-  sealed-blank k =
+  pub sealed-rest : (k : ℕ) → cell (sealedSheet B) (length (B .bids) + (length (B .capacities) + k)) ≡ 0
+  sealed-rest k =
       sealed-past (length (B .capacities) + k)
-      ∙ ap (λ (n : ℕ). getD (capacityPart ++ blankPart) (n + k) 0) (sym (length-map (B .capacities) residue))
-      ∙ getD-append-add capacityPart blankPart k 0
+      ∙ ap (λ (n : ℕ). getD (capacityPart ++ zeroPart) (n + k) 0) (sym (length-map (B .capacities) residue))
+      ∙ getD-append-add capacityPart zeroPart k 0
       ∙ zeros-cell (cellCount - (length (B .bids) + length (B .capacities))) k
 
   module _ (sound : Sound B) where
@@ -73,12 +73,12 @@ module _ (B : Book) where
     pub sealed-length : length (sealedSheet B) ≡ cellCount
     sealed-length =
         ap length parts
-        ∙ length-append bidPart (capacityPart ++ blankPart)
+        ∙ length-append bidPart (capacityPart ++ zeroPart)
         ∙ omega (
           arith,
           length-map (B .bids) residue,
           length-map (B .capacities) residue,
-          length-append capacityPart blankPart,
+          length-append capacityPart zeroPart,
           length-replicate {A = ℕ} (cellCount - (length (B .bids) + length (B .capacities))) 0,
           sound .bid-table,
           sound .capacity-table,
@@ -90,7 +90,7 @@ module _ (B : Book) where
     pub sealed-zero : (k : ℕ) → firstResult (B .n) (B .m) ≤ k → cell (sealedSheet B) k ≡ 0
     sealed-zero k h =
         let e : k ≡ length (B .bids) + (length (B .capacities) + (k - (length (B .bids) + length (B .capacities)))) = omega (arith, sound .bid-table, sound .capacity-table) in
-        ap (λ (c : ℕ). cell (sealedSheet B) c) e ∙ sealed-blank (k - (length (B .bids) + length (B .capacities)))
+        ap (λ (c : ℕ). cell (sealedSheet B) c) e ∙ sealed-rest (k - (length (B .bids) + length (B .capacities)))
 
     -- the sheet by names
     abbrev pub sealedState : State
@@ -116,6 +116,6 @@ module _ (B : Book) where
     pub sealed-inputs : Holds (tables B) inputs sealedState
     unfolding sumTo
     sealed-inputs =
-        holds-add (tables B) bids (capacities ∷ blanks ∷ []) sealedState bid-cells
-        (holds-add (tables B) capacities (blanks ∷ []) sealedState capacity-cells
-        (holds-add (tables B) blanks [] sealedState (λ i j a b. sealed-zero (cellOf (B .n) (B .m) (at blanks i j)) (omega arith)) (λ t e. absurd {0} (false≢true e))))
+        holds-add (tables B) bids (capacities ∷ zeroCells ∷ []) sealedState bid-cells
+        (holds-add (tables B) capacities (zeroCells ∷ []) sealedState capacity-cells
+        (holds-add (tables B) zeroCells [] sealedState (λ i j a b. sealed-zero (cellOf (B .n) (B .m) (at zeroCells i j)) (omega arith)) (λ t e. absurd {0} (false≢true e))))

@@ -6,20 +6,20 @@ use Rattle.definitions.specs.Book.{Book}
 use Rattle.laws.specs.AcceptedBook.{Sound}
 use Rattle.plan.specs.Orders.{State, run}
 use Rattle.plan.specs.Holds.{Holds, Step, then, phase-step, step-part}
-use Rattle.plan.specs.Names.{bids, capacities, amounts, flows, prices, blanks}
+use Rattle.plan.specs.Names.{bids, capacities, amounts, flows, prices, zeroCells}
 use Rattle.plan.specs.Values.{tables}
 use Rattle.plan.specs.Bounds.{Theory}
-use Rattle.plan.specs.Bids.{unit-phase, shift-phase, pool-number-phase, side-phase, size-phase, rate-phase, double-phase, key-phase, next-phase, place-phase, weight-phase}
+use Rattle.plan.specs.Bids.{unit-phase, shift-phase, pool-number-phase, side-phase, size-phase, positive-price-phase, double-phase, key-phase, next-phase, membership-phase, pool-size-phase}
 use Rattle.plan.specs.Cuts.{demand-phase, cut-phase}
-use Rattle.plan.specs.Ranks.{ahead-phase, low-phase, reach-phase, high-phase, use-phase, amount-phase}
+use Rattle.plan.specs.Ranks.{size-before-phase, rank-before-phase, size-with-phase, rank-with-phase, use-phase, amount-phase}
 use Rattle.plan.specs.Lines.{placement-phase, slack-phase, flow-phase}
-use Rattle.plan.specs.Prices.{offer-phase, peak-phase, price-phase}
+use Rattle.plan.specs.Prices.{offer-phase, highest-offer-phase, price-phase}
 use Rattle.plan.specs.Tree.{flat}
 use Rattle.plan.specs.Work.{work}
 
 -- what a sealed sheet holds
 abbrev pub inputs : List ℕ
-inputs = bids ∷ capacities ∷ blanks ∷ []
+inputs = bids ∷ capacities ∷ zeroCells ∷ []
 
 -- what the work leaves on it
 abbrev pub outputs : List ℕ
@@ -35,20 +35,20 @@ module _ (B : Book) (sound : Sound B) (theory : Theory B) where
       (then (tables B) (phase-step (tables B) _ (pool-number-phase B sound) refl)
       (then (tables B) (phase-step (tables B) _ (side-phase B sound) refl)
       (then (tables B) (phase-step (tables B) _ (size-phase B sound) refl)
-      (then (tables B) (phase-step (tables B) _ (rate-phase B sound) refl)
+      (then (tables B) (phase-step (tables B) _ (positive-price-phase B sound) refl)
       (then (tables B) (phase-step (tables B) _ (double-phase B sound) refl)
       (then (tables B) (phase-step (tables B) _ (key-phase B sound) refl)
       (phase-step (tables B) _ (next-phase B sound) refl)))))))))
       (then (tables B)
-      (then (tables B) (phase-step (tables B) _ (place-phase B sound) refl)
-      (then (tables B) (phase-step (tables B) _ (weight-phase B sound) refl)
+      (then (tables B) (phase-step (tables B) _ (membership-phase B sound) refl)
+      (then (tables B) (phase-step (tables B) _ (pool-size-phase B sound) refl)
       (then (tables B) (phase-step (tables B) _ (demand-phase B sound) refl)
       (phase-step (tables B) _ (cut-phase B sound) refl))))
       (then (tables B)
-      (then (tables B) (phase-step (tables B) _ (ahead-phase B sound) refl)
-      (then (tables B) (phase-step (tables B) _ (low-phase B sound) refl)
-      (then (tables B) (phase-step (tables B) _ (reach-phase B sound) refl)
-      (then (tables B) (phase-step (tables B) _ (high-phase B sound) refl)
+      (then (tables B) (phase-step (tables B) _ (size-before-phase B sound) refl)
+      (then (tables B) (phase-step (tables B) _ (rank-before-phase B sound) refl)
+      (then (tables B) (phase-step (tables B) _ (size-with-phase B sound) refl)
+      (then (tables B) (phase-step (tables B) _ (rank-with-phase B sound) refl)
       (then (tables B) (phase-step (tables B) _ (use-phase B sound) refl)
       (phase-step (tables B) _ (amount-phase B sound theory) refl))))))
       (then (tables B)
@@ -56,7 +56,7 @@ module _ (B : Book) (sound : Sound B) (theory : Theory B) where
       (then (tables B) (phase-step (tables B) _ (slack-phase B sound theory) refl)
       (phase-step (tables B) _ (flow-phase B sound theory) refl)))
       (then (tables B) (phase-step (tables B) _ (offer-phase B sound theory) refl)
-      (then (tables B) (phase-step (tables B) _ (peak-phase B sound) refl)
+      (then (tables B) (phase-step (tables B) _ (highest-offer-phase B sound) refl)
       (phase-step (tables B) _ (price-phase B sound) refl)))))))
       refl
 

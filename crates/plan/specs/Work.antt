@@ -3,9 +3,9 @@ use mathlib.Core.List.{List, [], _∷_}
 use Prim.Native.Nat.{ℕ, _+_, _*_, _%_, _/_, _^_}
 use Rattle.definitions.specs.Limits.{greatestPositive}
 use Rattle.plan.specs.Orders.{OrderOn, constant, sum, difference, Name}
-use Rattle.plan.specs.Names.{Capacity, Flow, Temporary, Blank, Demand, Subset, Cut, Ahead, Low, Reach, High, Placement, Peak}
+use Rattle.plan.specs.Names.{Capacity, Flow, Temporary, ZeroCell, Demand, Subset, Cut, SizeBefore, RankBefore, SizeWith, RankWith, Placement, HighestOffer}
 use Rattle.plan.specs.Running.{subsetBlock}
-use Rattle.plan.specs.Blocks.{unitBlock, shiftBlock, poolNumberBlock, sideBlock, sizeBlock, rateBlock, doubleBlock, keyBlock, nextBlock, placeBlock, weightBlock, demandTurn, cutTurn, testOrder, gain, aheadStart, costTurn, reachBlock, useBlock, amountBlock, placementTurn, slackBlock, restTurn, takeTurn, offerBlock, peakTurn, priceBlock}
+use Rattle.plan.specs.Blocks.{unitBlock, shiftBlock, poolNumberBlock, sideBlock, sizeBlock, positivePriceBlock, doubleBlock, keyBlock, nextBlock, membershipBlock, poolSizeBlock, demandTurn, cutTurn, testOrder, gainTurn, sizeBeforeStart, costTurn, sizeWithBlock, useBlock, amountBlock, placementTurn, slackBlock, restTurn, takeTurn, offerBlock, highestOfferTurn, priceBlock}
 use Rattle.plan.specs.Tree.{Tree, orders, seq, rep, blocks}
 
 abbrev pub Orders : Type 0
@@ -25,7 +25,7 @@ module _ (n m : ℕ) where
       (seq (blocks m 1 poolNumberBlock)
       (seq (blocks n 1 sideBlock)
       (seq (blocks n 3 sizeBlock)
-      (seq (blocks n 1 rateBlock)
+      (seq (blocks n 1 positivePriceBlock)
       (seq (blocks n 1 doubleBlock)
       (seq (blocks n 1 keyBlock)
       (blocks n 1 nextBlock))))))))
@@ -39,23 +39,23 @@ module _ (n m : ℕ) where
   subsetTree X = blocks (2 ^ m) 1 (subsetBlock m X)
 
   abbrev pub cutTree : ℕ → Orders
-  cutTree S = seq (orders (sum (Cut S) (Subset S) Blank ∷ [])) (grid m m (cutTurn S))
+  cutTree S = seq (orders (sum (Cut S) (Subset S) ZeroCell ∷ [])) (grid m m (cutTurn S))
 
   abbrev pub cutsTree : Orders
   cutsTree =
-      seq (grid n m placeBlock)
-      (seq (grid n m weightBlock)
+      seq (grid n m membershipBlock)
+      (seq (grid n m poolSizeBlock)
       (seq (rep m (1 + n * 2) demandTree)
       (seq (subsetTree Demand)
       (rep (2 ^ m) (1 + m * (m * 1)) cutTree))))
 
   -- ---- the ranks
 
-  abbrev pub aheadTurnTree : (i j : ℕ) → Orders
-  aheadTurnTree i j = seq (orders (testOrder i j ∷ [])) (blocks m 2 (gain i j))
+  abbrev pub sizeBeforeTurnTree : (i j : ℕ) → Orders
+  sizeBeforeTurnTree i j = seq (orders (testOrder i j ∷ [])) (blocks m 2 (gainTurn i j))
 
-  abbrev pub aheadTree : ℕ → Orders
-  aheadTree i = seq (blocks m 1 (aheadStart i)) (rep n (1 + m * 2) (aheadTurnTree i))
+  abbrev pub sizeBeforeTree : ℕ → Orders
+  sizeBeforeTree i = seq (blocks m 1 (sizeBeforeStart i)) (rep n (1 + m * 2) (sizeBeforeTurnTree i))
 
   abbrev pub rankTree : (ℕ → Name) → Name → Orders
   rankTree X d = seq (subsetTree X) (seq (orders (constant d greatestPositive ∷ [])) (blocks (2 ^ m) 5 (costTurn m d)))
@@ -65,10 +65,10 @@ module _ (n m : ℕ) where
 
   abbrev pub rankTrees : Orders
   rankTrees =
-      seq (rep n (m * 1 + n * (1 + m * 2)) aheadTree)
-      (seq (rep n rankSize (λ i. rankTree (Ahead i) (Low i)))
-      (seq (grid n m reachBlock)
-      (seq (rep n rankSize (λ i. rankTree (Reach i) (High i)))
+      seq (rep n (m * 1 + n * (1 + m * 2)) sizeBeforeTree)
+      (seq (rep n rankSize (λ i. rankTree (SizeBefore i) (RankBefore i)))
+      (seq (grid n m sizeWithBlock)
+      (seq (rep n rankSize (λ i. rankTree (SizeWith i) (RankWith i)))
       (seq (blocks n 1 useBlock)
       (blocks n 4 amountBlock)))))
 
@@ -78,7 +78,7 @@ module _ (n m : ℕ) where
   placementTree p = seq (orders (constant (Placement p) 0 ∷ [])) (blocks n 2 (placementTurn p))
 
   abbrev pub restTree : (a b : ℕ) → Orders
-  restTree a b = seq (orders (sum (Temporary 2) (Capacity a b) Blank ∷ [])) (blocks (2 ^ m) 4 (restTurn a b))
+  restTree a b = seq (orders (sum (Temporary 2) (Capacity a b) ZeroCell ∷ [])) (blocks (2 ^ m) 4 (restTurn a b))
 
   abbrev pub takeTree : (l a b : ℕ) → Orders
   takeTree l a b = seq (orders (difference (Flow l) (Capacity a b) (Temporary 2) ∷ [])) (blocks (2 ^ m) 1 (takeTurn l a b))
@@ -97,11 +97,11 @@ module _ (n m : ℕ) where
 
   -- ---- the prices
 
-  abbrev pub peakTree : ℕ → Orders
-  peakTree p = seq (orders (constant (Peak p) 0 ∷ [])) (blocks n 5 (peakTurn p))
+  abbrev pub highestOfferTree : ℕ → Orders
+  highestOfferTree p = seq (orders (constant (HighestOffer p) 0 ∷ [])) (blocks n 5 (highestOfferTurn p))
 
   abbrev pub priceTree : Orders
-  priceTree = seq (blocks n 4 offerBlock) (seq (rep m (1 + n * 5) peakTree) (blocks m 3 priceBlock))
+  priceTree = seq (blocks n 4 offerBlock) (seq (rep m (1 + n * 5) highestOfferTree) (blocks m 3 priceBlock))
 
   abbrev pub work : Orders
   work = seq bidTree (seq cutsTree (seq rankTrees (seq flowTree priceTree)))

@@ -16,28 +16,28 @@ offer-order-requires c κs = search needs
 returns : tie.Need-returns
 returns c = at-left _ _ ((c .before .before .args .n) * 4) _ _ (omega arith) (omega arith) (at-blocks _ _ _ _ _ ((c .offer-order .ensures)))
 
-mul-peak : tie.Need-mul-peak
-mul-peak c = search needs
+mul-highest-offer : tie.Need-mul-highest-offer
+mul-highest-offer c = search needs
 
-add-peak : tie.Need-add-peak
-add-peak c = search needs
+add-highest-offer : tie.Need-add-highest-offer
+add-highest-offer c = search needs
 
-mul-peaks : tie.Need-mul-peaks
-mul-peaks c = omega (arith, product-small (c .before .args .m) (1 + (c .before .args .n) * 5) 4 321 (omega arith) (omega arith))
+mul-highest-offers : tie.Need-mul-highest-offers
+mul-highest-offers c = omega (arith, product-small (c .before .args .m) (1 + (c .before .args .n) * 5) 4 321 (omega arith) (omega arith))
 
-div-peak-order : tie.Need-div-peak-order
-div-peak-order c = search needs
+div-highest-offer-order : tie.Need-div-highest-offer-order
+div-highest-offer-order c = search needs
 
-rem-peak-order : tie.Need-rem-peak-order
-rem-peak-order c = search needs
+rem-highest-offer-order : tie.Need-rem-highest-offer-order
+rem-highest-offer-order c = search needs
 
-peak-order-requires : tie.Need-peak-order-requires
-peak-order-requires c κs = search needs
+highest-offer-order-requires : tie.Need-highest-offer-order-requires
+highest-offer-order-requires c κs = search needs
 
 returns-2 : tie.Need-returns-2
 returns-2 c =
     let a = c .before .before .before .args in
-    at-right _ _ ((a .n) * 4) _ _ (omega arith) (omega arith) (at-left _ _ ((a .m) * (1 + (a .n) * 5)) _ _ (omega arith) (omega arith) (at-rep _ _ _ _ _ _ (omega arith) ((c .peak-order .ensures))))
+    at-right _ _ ((a .n) * 4) _ _ (omega arith) (omega arith) (at-left _ _ ((a .m) * (1 + (a .n) * 5)) _ _ (omega arith) (omega arith) (at-rep _ _ _ _ _ _ (omega arith) ((c .highest-offer-order .ensures))))
 
 price-order-requires : tie.Need-price-order-requires
 price-order-requires c κs = search needs
@@ -54,12 +54,12 @@ prices-order-spec =
     mul-offers
     offer-order-requires
     returns
-    mul-peak
-    add-peak
-    mul-peaks
-    div-peak-order
-    rem-peak-order
-    peak-order-requires
+    mul-highest-offer
+    add-highest-offer
+    mul-highest-offers
+    div-highest-offer-order
+    rem-highest-offer-order
+    highest-offer-order-requires
     returns-2
     price-order-requires
     returns-3)

@@ -8,36 +8,36 @@ use borrow.Author.Needs.{needs}
 use Rattle.orders.proofs.phases.ranks_order.Statement.{statement}
 use Rattle.orders.proofs.phases.ranks_order.Tie as tie
 
-mul-ahead : tie.Need-mul-ahead
-mul-ahead c = search needs
+mul-size-before : tie.Need-mul-size-before
+mul-size-before c = search needs
 
-add-ahead : tie.Need-add-ahead
-add-ahead c = search needs
+add-size-before : tie.Need-add-size-before
+add-size-before c = search needs
 
-mul-ahead-2 : tie.Need-mul-ahead-2
-mul-ahead-2 c = omega (arith, product-small (c .args .n) (1 + (c .args .m) * 2) 64 9 (omega arith) (omega arith))
+mul-size-before-2 : tie.Need-mul-size-before-2
+mul-size-before-2 c = omega (arith, product-small (c .args .n) (1 + (c .args .m) * 2) 64 9 (omega arith) (omega arith))
 
-add-ahead-2 : tie.Need-add-ahead-2
-add-ahead-2 c = omega (arith, product-small (c .args .n) (1 + (c .args .m) * 2) 64 9 (omega arith) (omega arith))
+add-size-before-2 : tie.Need-add-size-before-2
+add-size-before-2 c = omega (arith, product-small (c .args .n) (1 + (c .args .m) * 2) 64 9 (omega arith) (omega arith))
 
-mul-aheads : tie.Need-mul-aheads
-mul-aheads c =
+mul-sizes-before : tie.Need-mul-sizes-before
+mul-sizes-before c =
     let a = c .args in
     omega (arith, product-small (a .n) ((a .m) + (a .n) * (1 + (a .m) * 2)) 64 580 (omega arith) (omega (arith, product-small (a .n) (1 + (a .m) * 2) 64 9 (omega arith) (omega arith))))
 
-div-ahead-order : tie.Need-div-ahead-order
-div-ahead-order c = search needs
+div-size-before-order : tie.Need-div-size-before-order
+div-size-before-order c = search needs
 
-rem-ahead-order : tie.Need-rem-ahead-order
-rem-ahead-order c = search needs
+rem-size-before-order : tie.Need-rem-size-before-order
+rem-size-before-order c = search needs
 
-ahead-order-requires : tie.Need-ahead-order-requires
-ahead-order-requires c κs = search needs
+size-before-order-requires : tie.Need-size-before-order-requires
+size-before-order-requires c κs = search needs
 
 returns : tie.Need-returns
 returns c =
     let a = c .before .before .args in
-    at-left _ _ ((a .n) * ((a .m) + (a .n) * (1 + (a .m) * 2))) _ _ (omega arith) (omega arith) (at-rep _ _ _ _ _ _ (omega arith) ((c .ahead-order .ensures)))
+    at-left _ _ ((a .n) * ((a .m) + (a .n) * (1 + (a .m) * 2))) _ _ (omega arith) (omega arith) (at-rep _ _ _ _ _ _ (omega arith) ((c .size-before-order .ensures)))
 
 subset-count-requires : tie.Need-subset-count-requires
 subset-count-requires c κs = search needs
@@ -119,14 +119,14 @@ pub ranks-order-spec : {M : Type 1} → statement M
 ranks-order-spec =
     tie.close
     (tie.spec
-    mul-ahead
-    add-ahead
-    mul-ahead-2
-    add-ahead-2
-    mul-aheads
-    div-ahead-order
-    rem-ahead-order
-    ahead-order-requires
+    mul-size-before
+    add-size-before
+    mul-size-before-2
+    add-size-before-2
+    mul-sizes-before
+    div-size-before-order
+    rem-size-before-order
+    size-before-order-requires
     returns
     subset-count-requires
     mul-rank
