@@ -17,66 +17,97 @@ use judging::judge_counts;
 pub struct Family {}
 
 impl Family {
+    // Each bid's pool, price and quantity.
     pub const BIDS: usize = 0;
 
+    // The capacity of each line, by its two ends.
     pub const CAPACITIES: usize = 1;
 
+    // Each bid's accepted amount.
     pub const AMOUNTS: usize = 2;
 
+    // The flow of each line, by the line's number.
     pub const FLOWS: usize = 3;
 
+    // Each pool's price and presence.
     pub const PRICES: usize = 4;
 
+    // What one block keeps for itself.
     pub const TEMPORARIES: usize = 5;
 
+    // The number 0, in one cell that no order of the work writes.
     pub const ZERO_CELLS: usize = 6;
 
+    // The number 1.
     pub const UNITS: usize = 7;
 
+    // What makes a price positive.
     pub const SHIFTS: usize = 8;
 
+    // Each pool's number in a book, from 1.
     pub const POOL_NUMBERS: usize = 9;
 
+    // Each bid's side: 1 for a purchase, 0 for a sale.
     pub const SIDES: usize = 10;
 
+    // Each bid's quantity without its sign.
     pub const SIZES: usize = 11;
 
+    // Each bid's price made positive, so that 0 can stand for none.
     pub const POSITIVE_PRICES: usize = 12;
 
+    // Each positive price doubled.
     pub const DOUBLES: usize = 13;
 
+    // Each doubled price and the side.
     pub const KEYS: usize = 14;
 
+    // Each doubled price and 1.
     pub const NEXTS: usize = 15;
 
+    // Whether a bid is in a pool, as 1 or 0.
     pub const MEMBERSHIPS: usize = 16;
 
+    // A bid's size in a pool, 0 if it is in another.
     pub const POOL_SIZES: usize = 17;
 
+    // The sizes of each pool's purchases.
     pub const DEMANDS: usize = 18;
 
+    // A sum over each set of pools, one sum after another.
     pub const SUBSETS: usize = 19;
 
+    // The most that can be used in each set of pools.
     pub const CUTS: usize = 20;
 
+    // The sizes in a pool of the bids before a bid.
     pub const SIZES_BEFORE: usize = 21;
 
+    // The most that can be used of the bids before a bid.
     pub const RANKS_BEFORE: usize = 22;
 
+    // The sizes in a pool of the bids before a bid, and its own.
     pub const SIZES_WITH: usize = 23;
 
+    // The most that can be used of the bids before a bid and of itself.
     pub const RANKS_WITH: usize = 24;
 
+    // Each bid's used amount.
     pub const USES: usize = 25;
 
+    // What is used in each pool.
     pub const PLACEMENTS: usize = 26;
 
+    // What each set of pools could still take.
     pub const SLACKS: usize = 27;
 
+    // The positive price of each sale accepted above 0, 0 for other bids.
     pub const OFFERS: usize = 28;
 
+    // The highest offer in each pool.
     pub const HIGHEST_OFFERS: usize = 29;
 
+    // How many families there are.
     pub const COUNT: usize = 30;
 }
 

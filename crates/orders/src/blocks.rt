@@ -32,7 +32,7 @@ pub fn size_order(i: usize, r: usize) -> NamedOrder
     NamedOrder::Operate(Kind::DIFFERENCE, size, first, second)
 }
 
-// The demand of bid i added to that of pool p.
+// The size of bid i, if it is a purchase in pool p, added to the pool's demand.
 pub fn demand_turn(p: usize, i: usize, r: usize) -> NamedOrder
     requires { ⌜ r < 2 ⌝ }
     ensures { λ o. ⌜ namedOf o ≡ named (demandTurn p i) r ⌝ }
@@ -47,7 +47,7 @@ pub fn demand_turn(p: usize, i: usize, r: usize) -> NamedOrder
     NamedOrder::Operate(Kind::SUM, demand, demand, first)
 }
 
-// The size of bid j in pool p, where the test said that it is before bid i.
+// The size of bid j in pool p, if the test said that j is before i, added to the sizes before bid i.
 pub fn gain_turn(i: usize, j: usize, p: usize, r: usize) -> NamedOrder
     requires { ⌜ r < 2 ⌝ }
     ensures { λ o. ⌜ namedOf o ≡ named (gainTurn i j p) r ⌝ }
@@ -122,7 +122,7 @@ pub fn amount_order(i: usize, r: usize) -> NamedOrder
     NamedOrder::Operate(Kind::SUM, amount, used, first)
 }
 
-// The used amount of bid i added to that of pool p.
+// The used amount of bid i, if it is in pool p, added to the pool's.
 pub fn placement_turn(p: usize, i: usize, r: usize) -> NamedOrder
     requires { ⌜ r < 2 ⌝ }
     ensures { λ o. ⌜ namedOf o ≡ named (placementTurn p i) r ⌝ }
@@ -226,7 +226,7 @@ pub fn cut_turn(s: usize, a: usize, b: usize) -> NamedOrder
     NamedOrder::Operate(Kind::SUM, cut, cut, zero_cell)
 }
 
-// The least of what line a to b leaves, with set s.
+// One step of a least, in the third temporary: what line a to b leaves unused is at most the slack of s, if the line leaves s.
 pub fn rest_turn(a: usize, b: usize, s: usize, r: usize) -> NamedOrder
     requires { ⌜ r < 4 ⌝ }
     ensures { λ o. ⌜ namedOf o ≡ named (restTurn a b s) r ⌝ }
@@ -240,7 +240,7 @@ pub fn rest_turn(a: usize, b: usize, s: usize, r: usize) -> NamedOrder
     lowered_order(third, capacity, r)
 }
 
-// What line l, a to b, takes off the slack of s.
+// The slack of s after line l, a to b: less what the line leaves unused if it leaves s, less its flow if it enters s.
 pub fn take_turn(l: usize, a: usize, b: usize, s: usize) -> NamedOrder
     ensures { λ o. ⌜ namedOf o ≡ named (takeTurn l a b s) 0 ⌝ }
 {
@@ -257,7 +257,7 @@ pub fn take_turn(l: usize, a: usize, b: usize, s: usize) -> NamedOrder
     NamedOrder::Operate(Kind::DIFFERENCE, slack, slack, zero_cell)
 }
 
-// Order r of what the set s costs, with the least in d.
+// One step of a least, in d: the cost of s is its cut and the sizes outside s.
 pub fn cost_turn(m: usize, d: CellName, s: usize, r: usize) -> NamedOrder
     requires { ⌜ m ≤ poolLimit ⌝ }
     requires { ⌜ s < 2 ^ m ⌝ }
@@ -274,7 +274,7 @@ pub fn cost_turn(m: usize, d: CellName, s: usize, r: usize) -> NamedOrder
     lowered_order(d, third, r - 1)
 }
 
-// Order r of bid i's offer in pool p.
+// One step of a greatest, in pool p's highest offer: the offer of bid i if it is in p.
 pub fn highest_offer_turn(p: usize, i: usize, r: usize) -> NamedOrder
     requires { ⌜ r < 5 ⌝ }
     ensures { λ o. ⌜ namedOf o ≡ named (highestOfferTurn p i) r ⌝ }

@@ -269,7 +269,7 @@ fn placement_order(n: usize, m: usize, p: usize, x: usize) -> NamedOrder
     placement_turn(p, y / 2, y % 2)
 }
 
-// What line a to b leaves of its capacity.
+// What line a to b leaves unused: the least of its capacity and of the slacks of the sets that it leaves.
 fn rest_order(n: usize, m: usize, a: usize, b: usize, x: usize) -> NamedOrder
     ensures { λ o. ⌜ namedOf o ≡ entryAt (restTree n m a b) x ⌝ }
 {
@@ -296,7 +296,7 @@ fn take_order(n: usize, m: usize, l: usize, a: usize, b: usize, x: usize) -> Nam
     take_turn(l, a, b, x - 1)
 }
 
-// Line l.
+// What line l leaves unused, its flow, and the slacks after it.
 fn line_order(n: usize, m: usize, l: usize, x: usize) -> NamedOrder
     requires { ⌜ m ≤ poolLimit ⌝ }
     requires { ⌜ 0 < m ⌝ }
@@ -351,7 +351,7 @@ pub fn flow_order(n: usize, m: usize, x: usize) -> NamedOrder
     line_order(n, m, b / line, b % line)
 }
 
-// The greatest offer in pool p.
+// The highest offer in pool p.
 fn highest_offer_order(n: usize, m: usize, p: usize, x: usize) -> NamedOrder
     ensures { λ o. ⌜ namedOf o ≡ entryAt (highestOfferTree n m p) x ⌝ }
 {
