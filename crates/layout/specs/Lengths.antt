@@ -2,7 +2,7 @@
 use mathlib.Core.Path.{_≡_, refl, sym}
 use Prim.Native.Nat.{ℕ, zero, suc, _+_, _*_, _^_, _≤_, _<_}
 use native.Mathlib.Omega.{arith}
-use native.Mathlib.Nat.{mul-le-mul-right}
+use native.Mathlib.Nat.{mul-le-mul}
 use mathlib.Core.List.{[], _∷_}
 use lib.ListN.{length, getD}
 use Rattle.definitions.specs.Limits.{bidLimit, poolLimit}
@@ -10,10 +10,11 @@ use Rattle.definitions.specs.Answers.{Refusal, none, refuse, unless}
 use Rattle.definitions.specs.Calls.{countsRefusal}
 use Rattle.definitions.specs.Plan.{total}
 use Rattle.laws.specs.Sizes.{Counts, counted}
-use Rattle.plan.specs.Plan.{planLength, plan, plan-length}
+use Rattle.plan.specs.Plan.{planLength, plan, plan-length, power-small}
 
+-- a product grows with its factors
 pub product-small : (a b x y : ℕ) → a ≤ x → b ≤ y → a * b ≤ x * y
-product-small a b x y h k = omega (arith, mul-le-mul-right b h, mul-le-mul-right x k)
+product-small a b x y h k = mul-le-mul h k
 
 -- the code's table of 2 to the m
 pub subsets-at : (m : ℕ) → m ≤ poolLimit → getD (1 ∷ 2 ∷ 4 ∷ 8 ∷ 16 ∷ []) m 0 ≡ 2 ^ m
@@ -30,8 +31,8 @@ LengthsFit n m s = (m * m ≤ 16) × (n * n ≤ 4096) × (n * n * (1 + 2 * m) �
 
 pub lengths-fit : (n m s : ℕ) → n ≤ bidLimit → m ≤ poolLimit → s ≤ 16 → LengthsFit n m s
 lengths-fit n m s h k l =
-    let lines : m * m ≤ 16 = product-small m m 4 4 k k in
-    let pairs : n * n ≤ 4096 = product-small n n 64 64 h h in (
+    let lines : m * m ≤ 16 = mul-le-mul k k in
+    let pairs : n * n ≤ 4096 = mul-le-mul h h in (
       lines,
       pairs,
       product-small (n * n) (1 + 2 * m) 4096 9 pairs (omega arith),
@@ -39,18 +40,10 @@ lengths-fit n m s h k l =
       product-small s (7 + 6 * (m * m)) 16 103 l (omega arith),
     )
 
+-- the closed form of the length, as the code computes it
 pub plan-count : (n m s : ℕ) → 0 < m → s ≡ 2 ^ m → n * n * (1 + 2 * m) + n * (29 + 17 * m + 12 * s) + (8 + 11 * m + 2 * (m * m) + s * (7 + 6 * (m * m))) ≡ length (plan n m)
 unfolding planLength
 plan-count n m s p e = rw e (sym (plan-length n m p))
-
-pub power-small : (m : ℕ) → m ≤ poolLimit → 2 ^ m ≤ 16
-power-small zero h = omega arith
-power-small (suc zero) h = omega arith
-power-small (suc (suc zero)) h = omega arith
-power-small (suc (suc (suc zero))) h = omega arith
-power-small (suc (suc (suc (suc m)))) h =
-    let e : m ≡ 0 = omega arith in
-    rw e (omega arith)
 
 length-small : (n m : ℕ) → Counts n m → length (plan n m) ≤ 60000
 length-small n m c =

@@ -3,8 +3,10 @@ use mathlib.Core.Path.{_≡_, refl, ap, _∙_}
 use mathlib.Core.Bool.{Bool, cond}
 use mathlib.Core.List.{List, [], _∷_, _++_, map}
 use Prim.Native.Nat.{ℕ, zero, suc, _+_, _-_, _*_, _^_, _≤_, _<_}
+use native.Mathlib.Nat.{mul-le-mul, mul-le-mul-left, pow-le-pow-left}
 use native.Mathlib.Omega.{arith}
 use lib.Dec.{ltb}
+use lib.Pow.{pow-mono}
 use lib.ListN.{length, getD, length-append, length-map, List·getD-append, List·getD-map}
 use lib.Seq.{getD-append-add}
 use Rattle.definitions.specs.declared.Order.{Order}
@@ -163,25 +165,23 @@ module _ (n m : ℕ) where
         (all-map (Proper n m) WritesWell (renamed cellOf) proper-writes (flat (work n m)) (every-flat (Proper n m) (work n m) (work-proper n m h)))
         (all-loop WritesWell scratchCount zeroBlock zero-writes)
 
+-- there are at most 16 sets of pools
+pub power-small : (m : ℕ) → m ≤ poolLimit → 2 ^ m ≤ 16
+power-small m k = pow-mono k
+
 -- at the limits every name has a cell of the sheet
 pub names-fit : (n m : ℕ) → n ≤ bidLimit → m ≤ poolLimit → firstScratch n m + scratchCount n m ≤ cellCount
 unfolding scratchCount
-names-fit n zero h k = omega arith
-names-fit n (suc zero) h k = omega arith
-names-fit n (suc (suc zero)) h k = omega arith
-names-fit n (suc (suc (suc zero))) h k = omega arith
-names-fit n (suc (suc (suc (suc zero)))) h k = omega arith
-names-fit n (suc (suc (suc (suc (suc m))))) h k = absurd (omega arith)
+names-fit n m h k = omega (arith, power-small m k, mul-le-mul h k, mul-le-mul k k)
 
--- document 01's limit on the count of orders
+-- document 01's limit on the count of orders: with m ≥ 1 its power is at least 64, which is more than each bid needs
 pub plan-bound : (n m : ℕ) → 0 < m → m ≤ poolLimit → planLength n m ≤ n * (100 * n + 40 * (m + 1) ^ 6) + 10000
 unfolding planLength
-plan-bound n zero p k = absurd (omega arith)
-plan-bound n (suc zero) p k = omega arith
-plan-bound n (suc (suc zero)) p k = omega arith
-plan-bound n (suc (suc (suc zero))) p k = omega arith
-plan-bound n (suc (suc (suc (suc zero)))) p k = omega arith
-plan-bound n (suc (suc (suc (suc (suc m))))) p k = absurd (omega arith)
+plan-bound n m p k = go (2 ^ m) ((m + 1) ^ 6) (power-small m k) (pow-le-pow-left {n = 2} {m = m + 1} (omega arith) 6)
+  where
+    go : (sets power : ℕ) → sets ≤ 16 → 2 ^ 6 ≤ power
+        → n * n * (1 + 2 * m) + n * (29 + 17 * m + 12 * sets) + (8 + 11 * m + 2 * (m * m) + sets * (7 + 6 * (m * m))) ≤ n * (100 * n + 40 * power) + 10000
+    go sets power a b = omega (arith, mul-le-mul-left (n * n) k, mul-le-mul-left n k, mul-le-mul-left n a, mul-le-mul-left n b, mul-le-mul k k, mul-le-mul a (mul-le-mul k k))
 
 full-plan : planLength 64 4 ≡ 57092
 unfolding planLength

@@ -4,12 +4,12 @@ use mathlib.Core.Bool.{Bool, false≢true}
 use mathlib.Core.List.{List, [], _∷_, _++_, map, append-assoc}
 use Prim.Native.Nat.{ℕ, zero, suc, _+_, _-_, _*_, _≤_, _<_}
 use native.Mathlib.Omega.{arith}
-use native.Mathlib.Nat.{mul-le-mul-right}
+use native.Mathlib.Nat.{mul-le-mul}
 use lib.IntN.{pos}
 use lib.ListN.{length, getD, replicate, length-append, length-map, length-replicate, getD-replicate, List·getD-append, List·getD-map, List·getD-eq-default}
 use lib.Seq.{getD-append-add}
 use lib.Arith.{digits-lt}
-use Rattle.definitions.specs.Limits.{poolLimit, bidNumbers, cellCount}
+use Rattle.definitions.specs.Limits.{bidNumbers, cellCount}
 use Rattle.definitions.specs.Arithmetic.{sumTo, residue}
 use Rattle.definitions.specs.Book.{Book, capacity}
 use Rattle.definitions.specs.Sheet.{sealedSheet, firstResult}
@@ -67,9 +67,6 @@ module _ (B : Book) where
       ∙ zeros-cell (cellCount - (length (B .bids) + length (B .capacities))) k
 
   module _ (sound : Sound B) where
-    square-small : (m : ℕ) → m ≤ poolLimit → m * m ≤ poolLimit * poolLimit
-    square-small m h = omega (arith, mul-le-mul-right m h, h)
-
     pub sealed-length : length (sealedSheet B) ≡ cellCount
     sealed-length =
         ap length parts
@@ -83,7 +80,7 @@ module _ (B : Book) where
           sound .bid-table,
           sound .capacity-table,
           sound .bids,
-          square-small (B .m) (sound .pools),
+          mul-le-mul (sound .pools) (sound .pools),
         )
 
     -- 0 from the first result on

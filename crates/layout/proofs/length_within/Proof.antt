@@ -4,7 +4,8 @@ use Prim.Native.Nat.{_^_, _≤_}
 use mathlib.Core.Path.{_≡_}
 use mathlib.Core.List.{[], _∷_}
 use lib.ListN.{getD}
-use Rattle.layout.specs.Lengths.{LengthsFit, lengths-fit, plan-count, subsets-at, power-small}
+use Rattle.plan.specs.Plan.{power-small}
+use Rattle.layout.specs.Lengths.{LengthsFit, lengths-fit, plan-count, subsets-at}
 use borrow.Author.Needs.{needs}
 use Rattle.layout.proofs.length_within.Statement.{statement}
 use Rattle.layout.proofs.length_within.Tie as tie
