@@ -26,9 +26,11 @@ from-small n m u h k l = omega (arith, base-grows (rowsOf n m) (columnsOf n m) u
 abbrev pub StartsTo : (n m k : ℕ) → List ℕ → Type 0
 StartsTo n m k starts = (t : ℕ) → t < k → getD starts t 0 ≡ from n m t
 
+-- starts says where every family begins
 abbrev pub AreStarts : (n m : ℕ) → List ℕ → Type 0
 AreStarts n m starts = StartsTo n m familyCount starts
 
+-- the two tables are those of the plan for n and m
 pub record IsLayout (n m : ℕ) (starts columns : List ℕ) : Type 0 where
   pub begin : AreStarts n m starts
   pub columns-are : columns ≡ columnTable m

@@ -38,6 +38,7 @@ table-fits n m u h k l = omega (arith, from-next n m u, from-small n m (suc u) h
 
 -- ---- orders over names, as the code makes them
 
+-- the plan's name
 abbrev pub nameOf : CellName → Name
 nameOf c = at (c .0) (c .1) (c .2)
 
@@ -50,6 +51,7 @@ operationOf (suc (suc (suc zero))) = multiplying
 operationOf (suc (suc (suc (suc zero)))) = comparing
 operationOf (suc (suc (suc (suc (suc k))))) = equating
 
+-- the plan's order over names
 abbrev pub namedOf : NamedOrder → OrderOn Name
 namedOf (made.Constant d k) = constant (nameOf d) k
 namedOf (made.Operate kind d a b) = operate (operationOf kind) (nameOf d) (nameOf a) (nameOf b)
@@ -64,6 +66,7 @@ at-place l r k e = ap (λ (x : ℕ). getD l x (constant ZeroCell 0)) (sym e)
 
 -- ---- a tree's entries
 
+-- a tree's order at position x; shut like `named`
 unfoldable pub entryAt : Tree (OrderOn Name) → ℕ → OrderOn Name
 entryAt t x = entry t x (constant ZeroCell 0)
 
@@ -218,6 +221,7 @@ cell-by n m t i j starts columns h k layout v =
     record { is-cell = cell-is n m t i j _ _ begin width; on-sheet = cell-within n m t i j _ _ h k v begin width }
 
 module _ (n m : ℕ) where
+  -- the machine's order for an order over names
   unfoldable pub numberedOf : NamedOrder → Order
   numberedOf o = orderOf (renamed (cellOf n m) (namedOf o))
 

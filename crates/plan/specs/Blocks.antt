@@ -10,25 +10,31 @@ use Rattle.plan.specs.Names.{units, shifts, Pool, Price, Quantity, Capac
 use Rattle.plan.specs.Subsets.{leaves, complement}
 use Rattle.plan.specs.Running.{lowered, raised, subsetBlock}
 
+-- orders over names, one after another
 abbrev pub Block : Type 0
 Block = List (OrderOn Name)
 
 -- ---- constants
 
+-- the number 1
 abbrev pub unitBlock : ℕ → Block
 unitBlock i = constant (at units i 0) 1 ∷ []
 
+-- what makes a price positive
 abbrev pub shiftBlock : ℕ → Block
 shiftBlock i = constant (at shifts i 0) (suc priceLimit) ∷ []
 
+-- the number of pool p in a book
 abbrev pub poolNumberBlock : ℕ → Block
 poolNumberBlock p = constant (PoolNumber p) (suc p) ∷ []
 
 -- ---- each bid's numbers
 
+-- is bid i a purchase?
 abbrev pub sideBlock : ℕ → Block
 sideBlock i = less (Side i) ZeroCell (Quantity i) ∷ []
 
+-- the quantity if it is positive, less the quantity if it is not
 abbrev pub sizeBlock : ℕ → Block
 sizeBlock i =
     product (Temporary 0) (Quantity i) (Side i)
@@ -36,29 +42,37 @@ sizeBlock i =
     ∷ difference (Size i) (Temporary 0) (Temporary 1)
     ∷ []
 
+-- the price of bid i made positive
 abbrev pub positivePriceBlock : ℕ → Block
 positivePriceBlock i = sum (PositivePrice i) (Price i) Shift ∷ []
 
+-- that doubled
 abbrev pub doubleBlock : ℕ → Block
 doubleBlock i = sum (Double i) (PositivePrice i) (PositivePrice i) ∷ []
 
+-- the doubled price and the side
 abbrev pub keyBlock : ℕ → Block
 keyBlock i = sum (Key i) (Double i) (Side i) ∷ []
 
+-- the doubled price and 1
 abbrev pub nextBlock : ℕ → Block
 nextBlock i = sum (Next i) (Double i) One ∷ []
 
+-- is bid i in pool p?
 abbrev pub membershipBlock : (i p : ℕ) → Block
 membershipBlock i p = equal (Membership i p) (Pool i) (PoolNumber p) ∷ []
 
+-- the size of bid i in pool p
 abbrev pub poolSizeBlock : (i p : ℕ) → Block
 poolSizeBlock i p = product (PoolSize i p) (Membership i p) (Size i) ∷ []
 
 -- ---- the cuts
 
+-- the size of bid i, if it is a purchase in pool p, added to the pool's demand
 abbrev pub demandTurn : (p i : ℕ) → Block
 demandTurn p i = product (Temporary 0) (Side i) (PoolSize i p) ∷ sum (Demand p) (Demand p) (Temporary 0) ∷ []
 
+-- the demand of pool p
 abbrev pub demandBlock : (n p : ℕ) → Block
 demandBlock n p = constant (Demand p) 0 ∷ loop n (demandTurn p)
 
@@ -70,6 +84,7 @@ subsetBlocks m X = loop (2 ^ m) (subsetBlock m X)
 abbrev pub cutTurn : (S a b : ℕ) → Block
 cutTurn S a b = sum (Cut S) (Cut S) (cond (leaves S a b) (Capacity a b) ZeroCell) ∷ []
 
+-- the demands in set S, then the capacities of the lines that leave it
 abbrev pub cutBlock : (m S : ℕ) → Block
 cutBlock m S = sum (Cut S) (Subset S) ZeroCell ∷ loop m (λ a. loop m (cutTurn S a))
 
@@ -81,18 +96,23 @@ testAt true y i j = less (Temporary 0) (Key j) (Next i)
 testAt false true i j = less (Temporary 0) (Double j) (Key i)
 testAt false false i j = less (Temporary 0) ZeroCell ZeroCell
 
+-- that test for the bids i and j
 abbrev pub testOrder : (i j : ℕ) → OrderOn Name
 testOrder i j = testAt (ltb j i) (ltb i j) i j
 
+-- the size of bid j in pool p, if the test said that j is before i, added to the sizes before bid i
 abbrev pub gainTurn : (i j p : ℕ) → Block
 gainTurn i j p = product (Temporary 1) (Temporary 0) (PoolSize j p) ∷ sum (SizeBefore i p) (SizeBefore i p) (Temporary 1) ∷ []
 
+-- bid j tested against bid i, and its gain in each pool
 abbrev pub sizeBeforeTurn : (m i j : ℕ) → Block
 sizeBeforeTurn m i j = testOrder i j ∷ loop m (gainTurn i j)
 
+-- 0 to start from
 abbrev pub sizeBeforeStart : (i p : ℕ) → Block
 sizeBeforeStart i p = constant (SizeBefore i p) 0 ∷ []
 
+-- the sizes of all bids before bid i, pool by pool
 abbrev pub sizeBeforeBlock : (n m i : ℕ) → Block
 sizeBeforeBlock n m i = loop m (sizeBeforeStart i) ++ loop n (sizeBeforeTurn m i)
 
@@ -100,26 +120,33 @@ sizeBeforeBlock n m i = loop m (sizeBeforeStart i) ++ loop n (sizeBeforeTurn m i
 abbrev pub costTurn : (m : ℕ) (d : Name) (S : ℕ) → Block
 costTurn m d S = sum (Temporary 2) (Cut S) (Subset (complement m S)) ∷ lowered d (Temporary 2)
 
+-- the least cost over all sets, in d
 abbrev pub costLoop : (m : ℕ) (d : Name) → Block
 costLoop m d = constant d greatestPositive ∷ loop (2 ^ m) (costTurn m d)
 
+-- the rank of bids whose sizes stand in cells X, in d
 abbrev pub rankBlock : (m : ℕ) → (ℕ → Name) → (d : Name) → Block
 rankBlock m X d = subsetBlocks m X ++ costLoop m d
 
+-- the rank of the bids before bid i
 abbrev pub rankBeforeBlock : (m i : ℕ) → Block
 rankBeforeBlock m i = rankBlock m (SizeBefore i) (RankBefore i)
 
+-- the sizes before bid i and its own
 abbrev pub sizeWithBlock : (i p : ℕ) → Block
 sizeWithBlock i p = sum (SizeWith i p) (SizeBefore i p) (PoolSize i p) ∷ []
 
+-- the rank of bid i and the bids before it
 abbrev pub rankWithBlock : (m i : ℕ) → Block
 rankWithBlock m i = rankBlock m (SizeWith i) (RankWith i)
 
 -- ---- the amounts
 
+-- the used amount of bid i
 abbrev pub useBlock : ℕ → Block
 useBlock i = difference (Used i) (RankWith i) (RankBefore i) ∷ []
 
+-- the used amount of a sale, the size less the used amount of a purchase
 abbrev pub amountBlock : ℕ → Block
 amountBlock i =
     difference (Temporary 0) (Size i) (Used i)
@@ -130,12 +157,15 @@ amountBlock i =
 
 -- ---- the flows
 
+-- the used amount of bid i, if it is in pool p, added to the pool's
 abbrev pub placementTurn : (p i : ℕ) → Block
 placementTurn p i = product (Temporary 0) (Membership i p) (Used i) ∷ sum (Placement p) (Placement p) (Temporary 0) ∷ []
 
+-- what is used in pool p
 abbrev pub placementBlock : (n p : ℕ) → Block
 placementBlock n p = constant (Placement p) 0 ∷ loop n (placementTurn p)
 
+-- the slack of set S before any line has its flow
 abbrev pub slackBlock : ℕ → Block
 slackBlock S = difference (Slack S) (Cut S) (Subset S) ∷ []
 
@@ -144,6 +174,7 @@ abbrev pub restCell : Bool → (S a b : ℕ) → Name
 restCell true S a b = Slack S
 restCell false S a b = Capacity a b
 
+-- one step of the least: what line a to b leaves unused is at most the slack of S, if the line leaves S
 abbrev pub restTurn : (a b S : ℕ) → Block
 restTurn a b S = lowered (Temporary 2) (restCell (leaves S a b) S a b)
 
@@ -153,20 +184,25 @@ takenCell true y l = Temporary 2
 takenCell false true l = Flow l
 takenCell false false l = ZeroCell
 
+-- the slack of S after line l, a to b
 abbrev pub takeTurn : (l a b S : ℕ) → Block
 takeTurn l a b S = difference (Slack S) (Slack S) (takenCell (leaves S a b) (leaves S b a) l) ∷ []
 
+-- what line a to b leaves unused, in the third temporary
 abbrev pub restPart : (m a b : ℕ) → Block
 restPart m a b = sum (Temporary 2) (Capacity a b) ZeroCell ∷ loop (2 ^ m) (restTurn a b)
 
+-- the flow of line l, a to b, and the slacks after it
 abbrev pub flowPart : (m l a b : ℕ) → Block
 flowPart m l a b = difference (Flow l) (Capacity a b) (Temporary 2) ∷ loop (2 ^ m) (takeTurn l a b)
 
+-- line l, from pool l / m to pool l % m
 abbrev pub lineBlock : (m l : ℕ) → Block
 lineBlock m l = restPart m (l / m) (l % m) ++ flowPart m l (l / m) (l % m)
 
 -- ---- the prices
 
+-- the positive price of bid i, if it is a sale accepted above 0
 abbrev pub offerBlock : ℕ → Block
 offerBlock i =
     less (Temporary 0) ZeroCell (Amount i)
@@ -175,12 +211,15 @@ offerBlock i =
     ∷ product (Offer i) (Temporary 0) (PositivePrice i)
     ∷ []
 
+-- one step of the greatest: the offer of bid i if it is in pool p
 abbrev pub highestOfferTurn : (p i : ℕ) → Block
 highestOfferTurn p i = product (Temporary 2) (Membership i p) (Offer i) ∷ raised (HighestOffer p) (Temporary 2)
 
+-- the highest offer in pool p
 abbrev pub highestOfferBlock : (n p : ℕ) → Block
 highestOfferBlock n p = constant (HighestOffer p) 0 ∷ loop n (highestOfferTurn p)
 
+-- has pool p an offer? The highest, without the shift, is its price
 abbrev pub priceBlock : ℕ → Block
 priceBlock p =
     less (Presence p) ZeroCell (HighestOffer p)

@@ -29,10 +29,11 @@ on-le false v b h = omega arith
 pub sum-limit : (k K : ℕ) (f : ℕ → ℕ) (b : ℕ) → k ≤ K → ((i : ℕ) → i < k → f i ≤ b) → sumTo k f ≤ K * b
 sum-limit k K f b l h = omega (arith, sum-bound k b f h, mul-le-mul-right b l)
 
--- all sizes together; all capacities and all sizes
+-- all sizes together
 abbrev pub sizeTotal : ℕ
 sizeTotal = bidLimit * quantityLimit
 
+-- the most that a cut can be: all sizes in each pool, and all capacities
 abbrev pub cutTotal : ℕ
 cutTotal = poolLimit * sizeTotal + poolLimit * (poolLimit * capacityLimit)
 

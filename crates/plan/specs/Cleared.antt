@@ -48,6 +48,7 @@ run-parts x y s = ap (λ (l : List Order). runOf l s) (map-append orderOf x y) �
 -- ---- the last loop: 0 in the first k scratch cells
 
 module _ (n m : ℕ) where
+  -- the sheet s with 0 in the first k scratch cells
   abbrev zeroed : ℕ → List ℕ → List ℕ
   zeroed k s = runOf (map orderOf (loop k (zeroBlock n m))) s
 
@@ -80,12 +81,15 @@ proper-named n m (constant d k) h = h .0
 proper-named n m (operate op d a b) h = (h .0, h .2, h .3)
 
 module _ (B : Book) (sound : Sound B) (theory : Theory B) where
+  -- the sheet that the plan begins with
   abbrev sealed : List ℕ
   sealed = sealedSheet B
 
+  -- the sheet after the work
   unfoldable worked : List ℕ
   worked = runOf (map orderOf (map (renamed (cellOf (B .n) (B .m))) (flat (work (B .n) (B .m))))) sealed
 
+  -- the sheet after the plan
   abbrev clearedSheet : List ℕ
   clearedSheet = runOf (plan (B .n) (B .m)) sealed
 

@@ -30,6 +30,7 @@ pub subsets-frame : (m : ℕ) (X : ℕ → Name) → writes (among (subsets ∷ 
 subsets-frame m X = writes-loop _ (2 ^ m) (subsetBlock m X) (λ S _. subset-frame m X S)
 
 module _ (B : Book) (sound : Sound B) where
+  -- what a demand reads
   abbrev Sides : State → Type 0
   Sides = Holds (tables B) (sides ∷ poolSizes ∷ [])
 
@@ -50,10 +51,11 @@ module _ (B : Book) (sound : Sound B) where
   demand-phase = fill-column (tables B) (sides ∷ poolSizes ∷ []) demands (temporaries ∷ []) refl refl refl (demandBlock (B .n))
       (λ p. rw (eqb-same p) (writes-loop _ (B .n) (demandTurn p) (λ i _. rw (eqb-same p)))) demand-value
 
-  -- with the demands' sums over all subsets
+  -- what a cut reads of the lines
   abbrev Lines : State → Type 0
   Lines = Holds (tables B) (capacities ∷ zeroCells ∷ [])
 
+  -- the same, with the demands' sums over all sets
   abbrev Summed : State → Type 0
   Summed t = Lines t × ((S : ℕ) → S < 2 ^ B .m → t (Subset S) ≡ subsetSum (B .m) (demand B) S)
 

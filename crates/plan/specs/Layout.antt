@@ -14,6 +14,7 @@ module _ (rows columns : ℕ → ℕ) where
   abbrev pub base : ℕ → ℕ
   base t = sumTo t (λ u. rows u * columns u)
 
+  -- the cell of a name
   abbrev pub address : Name → ℕ
   address (at t i j) = base t + (i * columns t + j)
 

@@ -45,6 +45,7 @@ line-off m l a b k h =
 module _ (B : Book) (sound : Sound B) (theory : Theory B) where
   -- ---- what is used in each pool
 
+  -- what a placement reads
   abbrev Amounts : State → Type 0
   Amounts = Holds (tables B) (memberships ∷ uses ∷ [])
 
@@ -67,6 +68,7 @@ module _ (B : Book) (sound : Sound B) (theory : Theory B) where
 
   -- ---- the slacks before the first line
 
+  -- the cuts, and the placements' sums over all sets
   abbrev Summed : State → Type 0
   Summed t = Holds (tables B) (cuts ∷ []) t × ((S : ℕ) → S < 2 ^ B .m → t (Subset S) ≡ subsetSum (B .m) (placement B) S)
 
@@ -88,10 +90,12 @@ module _ (B : Book) (sound : Sound B) (theory : Theory B) where
 
   -- ---- one line, a to b, with slacks x
 
+  -- what a line reads of the families that keep what they hold
   abbrev lineReads : List ℕ
   lineReads = capacities ∷ zeroCells ∷ []
 
   module _ (x : ℕ → ℕ) (l a b : ℕ) (la : a < B .m) (lb : b < B .m) (small : (S : ℕ) → x S ≤ cutTotal) (fits : (S : ℕ) → S < 2 ^ B .m → takenOf B x a b S ≤ x S) where
+    -- that, and slacks x
     abbrev Slacks : State → Type 0
     Slacks t = Holds (tables B) lineReads t × ((S : ℕ) → S < 2 ^ B .m → t (Slack S) ≡ x S)
 

@@ -10,8 +10,8 @@ use lib.Dec.{eqb}
 use borrow.Author.Tests.{eq-eqb, eqb-true}
 use Rattle.plan.specs.Orders.{OrderOn, target, outcome, Name, at, family, same, State, step, run}
 
--- block 0, then block 1, up to block k - 1
 module _ {A : Type 0} where
+  -- block 0, then block 1, up to block k - 1
   abbrev pub loop : ℕ → (ℕ → List A) → List A
   loop zero f = []
   loop (suc k) f = loop k f ++ f k

@@ -19,22 +19,28 @@ pub data OrderOn (A : Type 0) : Type 0 where
   operate : Operation → A → A → A → OrderOn A
 
 module _ {A : Type 0} where
+  -- the cell that an order writes
   abbrev pub target : OrderOn A → A
   target (constant d k) = d
   target (operate op d a b) = d
 
+  -- d takes a + b
   abbrev pub sum : A → A → A → OrderOn A
   sum d a b = operate adding d a b
 
+  -- d takes a - b
   abbrev pub difference : A → A → A → OrderOn A
   difference d a b = operate subtracting d a b
 
+  -- d takes a * b
   abbrev pub product : A → A → A → OrderOn A
   product d a b = operate multiplying d a b
 
+  -- d takes 1 if a is less than b, else 0
   abbrev pub less : A → A → A → OrderOn A
   less d a b = operate comparing d a b
 
+  -- d takes 1 if a and b are equal, else 0
   abbrev pub equal : A → A → A → OrderOn A
   equal d a b = operate equating d a b
 
@@ -46,14 +52,15 @@ result multiplying x y = times x y
 result comparing x y = lessThan x y
 result equating x y = sameAs x y
 
--- what an order writes, where cell a holds s a
 module _ {A : Type 0} (s : A → ℕ) where
+  -- what an order writes, where cell a holds s a
   abbrev pub outcome : OrderOn A → ℕ
   outcome (constant d k) = k
   outcome (operate op d a b) = result op (s a) (s b)
 
 -- ---- over cell numbers
 
+-- the machine's order
 abbrev pub orderOf : OrderOn ℕ → Order
 orderOf (constant d k) = unit.Constant d k
 orderOf (operate adding d a b) = unit.Sum d a b
@@ -76,12 +83,15 @@ step-is s (operate equating d a b) = refl
 pub data Name : Type 0 where
   at : ℕ → ℕ → ℕ → Name
 
+-- the family of a name
 abbrev pub family : Name → ℕ
 family (at t i j) = t
 
+-- its row there
 abbrev pub row : Name → ℕ
 row (at t i j) = i
 
+-- are two names the same?
 abbrev pub same : Name → Name → Bool
 same (at s a b) (at t c d) = eqb s t && (eqb a c && eqb b d)
 
@@ -89,18 +99,21 @@ same (at s a b) (at t c d) = eqb s t && (eqb a c && eqb b d)
 abbrev pub State : Type 0
 State = Name → ℕ
 
+-- the state s but with v in cell c
 abbrev pub update : State → Name → ℕ → State
 update s c v x = cond (same c x) v (s x)
 
+-- the state after one order
 abbrev pub step : State → OrderOn Name → State
 step s o = update s (target o) (outcome s o)
 
+-- the state after some orders, one after another
 abbrev pub run : List (OrderOn Name) → State → State
 run [] s = s
 run (o ∷ l) s = run l (step s o)
 
--- an order with each cell renamed
 module _ {A B : Type 0} (f : A → B) where
+  -- an order with each cell renamed
   abbrev pub renamed : OrderOn A → OrderOn B
   renamed (constant d k) = constant (f d) k
   renamed (operate op d a b) = operate op (f d) (f a) (f b)

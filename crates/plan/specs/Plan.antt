@@ -42,6 +42,7 @@ module _ (n m : ℕ) where
   unfoldable pub scratchCount : ℕ
   scratchCount = 6 + 10 * n + 4 * (n * m) + 4 * m + 3 * 2 ^ m
 
+  -- 0 in scratch cell k
   abbrev pub zeroBlock : ℕ → List (OrderOn ℕ)
   zeroBlock k = constant (firstScratch n m + k) 0 ∷ []
 
@@ -49,9 +50,11 @@ module _ (n m : ℕ) where
   abbrev pub numbered : List (OrderOn ℕ)
   numbered = map (renamed cellOf) (flat (work n m)) ++ loop scratchCount zeroBlock
 
+  -- the plan: these as the machine's orders
   unfoldable pub plan : List Order
   plan = map orderOf numbered
 
+  -- how many orders the plan has
   unfoldable pub planLength : ℕ
   planLength = n * n * (1 + 2 * m) + n * (29 + 17 * m + 12 * 2 ^ m) + (8 + 11 * m + 2 * (m * m) + 2 ^ m * (7 + 6 * (m * m)))
 
@@ -91,9 +94,11 @@ module _ (n m : ℕ) where
   unfoldable pub workAt : ℕ → OrderOn Name
   workAt x = entry (work n m) x (constant ZeroCell 0)
 
+  -- how many orders the work has
   unfoldable pub workLength : ℕ
   workLength = size (work n m)
 
+  -- the order at a position: of the work, else the 0 of a scratch cell
   unfoldable pub orderAt : ℕ → Order
   orderAt x = orderOf (cond (ltb x workLength) (renamed cellOf (workAt x)) (constant (firstScratch n m + (x - workLength)) 0))
 
@@ -138,6 +143,7 @@ module _ (n m : ℕ) where
   unfolding from
   name-writable (at t i j) h l = (omega (arith, from-result, base-grows (rowsOf n m) (columnsOf n m) amounts t l), name-below (at t i j) h)
 
+  -- one of the machine's orders, with a target that may be written
   abbrev pub WritesWell : OrderOn ℕ → Type 0
   WritesWell o = Writable (target o) × WellFormed (orderOf o)
 

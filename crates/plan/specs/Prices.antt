@@ -42,6 +42,7 @@ module _ (B : Book) (sound : Sound B) where
       )
       (both-tests (ltb 0 (acceptedAmount B i)) (purchase B i) (rate B i) (omega (arith, sound .price-small i l))))
 
+  -- what the highest offers read
   abbrev Offers : State → Type 0
   Offers = Holds (tables B) (offers ∷ memberships ∷ [])
 

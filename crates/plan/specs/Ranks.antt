@@ -43,9 +43,11 @@ accept-small false v x h k = omega arith
 module _ (B : Book) (sound : Sound B) where
   -- ---- the sizes of the bids before bid i, pool by pool
 
+  -- what a test and its gains read
   abbrev sizeBeforeReads : List ℕ
   sizeBeforeReads = doubles ∷ keys ∷ nexts ∷ poolSizes ∷ zeroCells ∷ []
 
+  -- they hold what they should
   abbrev Compared : State → Type 0
   Compared = Holds (tables B) sizeBeforeReads
 
@@ -91,6 +93,7 @@ module _ (B : Book) (sound : Sound B) where
   turn-frame : (i j : ℕ) → writes (among (sizesBefore ∷ temporaries ∷ [])) (sizeBeforeTurn (B .m) i j) ≡ true
   turn-frame i j = turn-writes (among (sizesBefore ∷ temporaries ∷ [])) i j refl refl (λ p. refl)
 
+  -- after k bids: the sizes of those of them that are before bid i
   abbrev Gained : (i k : ℕ) → State → Type 0
   Gained i k t = Compared t × ((p : ℕ) → p < B .m → t (SizeBefore i p) ≡ sumTo k (λ j. on (before B j i) (weight B j p)))
 
@@ -140,12 +143,15 @@ module _ (B : Book) (sound : Sound B) where
   module _ (u i : ℕ) (no-temporary : eqb temporaries u ≡ false) (no-cut : eqb u cuts ≡ false) (no-subset : eqb u subsets ≡ false)
       (X : ℕ → Name) (clear : (p : ℕ) → among (subsets ∷ []) (X p) ≡ false)
       (x : ℕ → ℕ) (small : (p : ℕ) → p < B .m → x p ≤ sizeTotal + quantityLimit) where
+    -- where the rank goes
     abbrev d : Name
     d = at u i 0
 
+    -- what set S costs
     abbrev cost : ℕ → ℕ
     cost S = cut B S + sumTo (B .m) (λ p. on (not (member S p)) (x p))
 
+    -- the cuts, and the sums of x over all sets
     abbrev Summed : State → Type 0
     Summed t = Holds (tables B) (cuts ∷ []) t × ((S : ℕ) → S < 2 ^ B .m → t (Subset S) ≡ subsetSum (B .m) x S)
 

@@ -19,8 +19,9 @@ use Rattle.plan.specs.Loops.{loop, loop-invariant, among, writes, keep, 
 use Rattle.plan.specs.Names.{subsets, Temporary, Subset}
 use Rattle.plan.specs.Subsets.{subsetSum, lowest, others, lowest-below, others-below, lowest-sum, subset-empty, subset-le}
 
--- ---- the four orders of a running minimum and of a running maximum: d takes the lesser, the greater, of d and a
+-- ---- the four orders of a running minimum and of a running maximum
 
+-- d takes the lesser of d and a
 abbrev pub lowered : Name → Name → List (OrderOn Name)
 lowered d a =
     less (Temporary 0) a d
@@ -29,6 +30,7 @@ lowered d a =
     ∷ sum d d (Temporary 0)
     ∷ []
 
+-- d takes the greater of d and a
 abbrev pub raised : Name → Name → List (OrderOn Name)
 raised d a =
     less (Temporary 0) d a
@@ -39,6 +41,7 @@ raised d a =
 
 -- ---- what one block does to a cell c, with J true all along; a block may itself be such a loop
 
+-- v is added to c
 abbrev pub Adds : (State → Type 0) → Name → List (OrderOn Name) → ℕ → Type 0
 Adds J c l v = (t : State) → J t → t c + v < modulus → J (run l t) × (run l t c ≡ t c + v)
 
@@ -60,6 +63,7 @@ gather J c l v start adds s j b =
     let r : J (run l t) × (run l t c ≡ t c + v) = adds t (start s j) (omega arith) in
     (r .0, omega (arith, r .1))
 
+-- c takes the lesser of c and v
 abbrev pub Lowers : (State → Type 0) → Name → List (OrderOn Name) → ℕ → Type 0
 Lowers J c l v = (t : State) → J t → t c ≤ greatestPositive → J (run l t) × (run l t c ≡ min (t c) v)
 
@@ -77,6 +81,7 @@ unfolding maxTo
 max-below zero f b h = omega arith
 max-below (suc k) f b h = omega (arith, max-below k f b (λ i l. h i (omega arith)), h k (le-refl (suc k)))
 
+-- c takes the greater of c and v
 abbrev pub Raises : (State → Type 0) → Name → List (OrderOn Name) → ℕ → Type 0
 Raises J c l v = (t : State) → J t → t c ≤ greatestPositive → J (run l t) × (run l t c ≡ max (t c) v)
 
@@ -92,10 +97,12 @@ raise J c n f v small turn s j e =
 
 -- ---- the sums over all subsets of cells X 0 .. X (m - 1), each from that without its lowest pool
 
+-- the sum over S: 0 for the empty set, else that of its other pools and the cell of its lowest
 abbrev pub subsetOrder : Bool → (m : ℕ) → (ℕ → Name) → ℕ → OrderOn Name
 subsetOrder true m X S = constant (Subset S) 0
 subsetOrder false m X S = sum (Subset S) (Subset (others m S)) (X (lowest m S))
 
+-- that, by whether S is empty
 abbrev pub subsetBlock : (m : ℕ) → (ℕ → Name) → ℕ → List (OrderOn Name)
 subsetBlock m X S = subsetOrder (eqb S 0) m X S ∷ []
 
@@ -107,6 +114,7 @@ subset-frame m X S = go (eqb S 0)
     go false = refl
 
 module _ (m : ℕ) (X : ℕ → Name) (clear : (p : ℕ) → among (subsets ∷ []) (X p) ≡ false) (x : ℕ → ℕ) (small : sumTo m x < modulus) where
+  -- the cells X hold x, and the sums of the first K sets are made
   abbrev Known : ℕ → State → Type 0
   Known K t = ((p : ℕ) → p < m → t (X p) ≡ x p) × ((S : ℕ) → S < K → t (Subset S) ≡ subsetSum m x S)
 

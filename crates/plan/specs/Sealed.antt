@@ -31,12 +31,15 @@ zeros-cell k i = go (lt? i k)
     go (more l) = List·getD-eq-default (replicate {A = ℕ} k 0) 0 (omega (arith, length-replicate {A = ℕ} k 0))
 
 module _ (B : Book) where
+  -- the sheet's first part: the bid table
   abbrev bidPart : List ℕ
   bidPart = map residue (B .bids)
 
+  -- its second part: the capacity table
   abbrev capacityPart : List ℕ
   capacityPart = map residue (B .capacities)
 
+  -- the rest: 0
   abbrev zeroPart : List ℕ
   zeroPart = replicate (cellCount - (length (B .bids) + length (B .capacities))) 0
 

@@ -43,6 +43,7 @@ AllNamed W (operate op d a b) = W d × W a × W b
 
 module _ (W : Name → Type 0) (address : Name → ℕ) (total : ℕ)
     (apart : (c d : Name) → W c → W d → address c ≡ address d → c ≡ d) (below : (c : Name) → W c → address c < total) where
+  -- the sheet l holds what the state s says, cell by cell
   abbrev pub Agrees : State → List ℕ → Type 0
   Agrees s l = (c : Name) → W c → cell l (address c) ≡ s c
 

@@ -16,11 +16,12 @@ pub use Rattle.theory.specs.ClosedForms.{leaves}
 abbrev pub complement : (m S : ℕ) → ℕ
 complement m S = 2 ^ m - 1 - S
 
--- the lowest pool of S, and the others
+-- the lowest pool of S
 unfoldable pub lowest : (m S : ℕ) → ℕ
 lowest zero S = 0
 lowest (suc m) S = cond (eqb (S % 2) 1) 0 (suc (lowest m (S / 2)))
 
+-- the other pools of S
 unfoldable pub others : (m S : ℕ) → ℕ
 others zero S = 0
 others (suc m) S = cond (eqb (S % 2) 1) (S - 1) (2 * others m (S / 2))

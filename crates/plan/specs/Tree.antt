@@ -12,6 +12,7 @@ use lib.Seq.{getD-append-add}
 use Rattle.laws.specs.Tests.{Lt?, less, more, lt?}
 use Rattle.plan.specs.Loops.{loop}
 
+-- a list by its parts and loops
 pub data Tree (A : Type 0) : Type 0 where
   -- orders written out
   orders : List A → Tree A
@@ -21,11 +22,13 @@ pub data Tree (A : Type 0) : Type 0 where
   rep : ℕ → ℕ → (ℕ → Tree A) → Tree A
 
 module _ {A : Type 0} where
+  -- the list of a tree
   abbrev pub flat : Tree A → List A
   flat (orders l) = l
   flat (seq a b) = flat a ++ flat b
   flat (rep k s f) = loop k (λ i. flat (f i))
 
+  -- how long that list is, as the tree says
   abbrev pub size : Tree A → ℕ
   size (orders l) = length l
   size (seq a b) = size a + size b
@@ -37,6 +40,7 @@ module _ {A : Type 0} where
   Fair (seq a b) = Fair a × Fair b
   Fair (rep k s f) = (0 < s) × ((i : ℕ) → (size (f i) ≡ s) × Fair (f i))
 
+  -- the entry at position x, by comparing and dividing
   abbrev pub entry : Tree A → ℕ → A → A
   entry (orders l) x d = getD l x d
   entry (seq a b) x d = cond (ltb x (size a)) (entry a x d) (entry b (x - size a) d)
@@ -92,6 +96,7 @@ module _ {A : Type 0} where
 -- ---- what holds of all entries
 
 module _ {A : Type 0} (P : A → Type 0) where
+  -- P holds of every entry of a list
   abbrev pub All : List A → Type 0
   All [] = Unit {0}
   All (o ∷ l) = P o × All l

@@ -37,5 +37,6 @@ module _ (B : Book) where
       ∷ (λ p j. placement B p) ∷ (λ S j. slack B S) ∷ (λ i j. offer B i) ∷ (λ p j. peak B p) ∷ [])
       t (λ i j. 0)
 
+  -- the families with their rows, columns and numbers, for book B
   abbrev pub tables : Tables
   tables = record { rows = rowsOf (B .n) (B .m); columns = columnsOf (B .n) (B .m); value = valueOf }

@@ -8,6 +8,7 @@ use Rattle.plan.specs.Running.{subsetBlock}
 use Rattle.plan.specs.Blocks.{unitBlock, shiftBlock, poolNumberBlock, sideBlock, sizeBlock, positivePriceBlock, doubleBlock, keyBlock, nextBlock, membershipBlock, poolSizeBlock, demandTurn, cutTurn, testOrder, gainTurn, sizeBeforeStart, costTurn, sizeWithBlock, useBlock, amountBlock, placementTurn, slackBlock, restTurn, takeTurn, offerBlock, highestOfferTurn, priceBlock}
 use Rattle.plan.specs.Tree.{Tree, orders, seq, rep, blocks}
 
+-- orders over names, as a tree
 abbrev pub Orders : Type 0
 Orders = Tree (OrderOn Name)
 
@@ -18,6 +19,7 @@ grid k j f = rep k (j * 1) (λ a. blocks j 1 (f a))
 module _ (n m : ℕ) where
   -- ---- the bids
 
+  -- the constants, and each bid's own numbers
   abbrev pub bidTree : Orders
   bidTree =
       seq (blocks 1 1 unitBlock)
@@ -32,15 +34,19 @@ module _ (n m : ℕ) where
 
   -- ---- the cuts
 
+  -- the demand of pool p
   abbrev pub demandTree : ℕ → Orders
   demandTree p = seq (orders (constant (Demand p) 0 ∷ [])) (blocks n 2 (demandTurn p))
 
+  -- the sums of cells X over all sets
   abbrev pub subsetTree : (ℕ → Name) → Orders
   subsetTree X = blocks (2 ^ m) 1 (subsetBlock m X)
 
+  -- the cut of set S
   abbrev pub cutTree : ℕ → Orders
   cutTree S = seq (orders (sum (Cut S) (Subset S) ZeroCell ∷ [])) (grid m m (cutTurn S))
 
+  -- memberships, sizes in pools, demands and cuts
   abbrev pub cutsTree : Orders
   cutsTree =
       seq (grid n m membershipBlock)
@@ -51,18 +57,23 @@ module _ (n m : ℕ) where
 
   -- ---- the ranks
 
+  -- bid j tested against bid i, and its gain in each pool
   abbrev pub sizeBeforeTurnTree : (i j : ℕ) → Orders
   sizeBeforeTurnTree i j = seq (orders (testOrder i j ∷ [])) (blocks m 2 (gainTurn i j))
 
+  -- the sizes before bid i, pool by pool
   abbrev pub sizeBeforeTree : ℕ → Orders
   sizeBeforeTree i = seq (blocks m 1 (sizeBeforeStart i)) (rep n (1 + m * 2) (sizeBeforeTurnTree i))
 
+  -- the rank of bids whose sizes stand in cells X, in d
   abbrev pub rankTree : (ℕ → Name) → Name → Orders
   rankTree X d = seq (subsetTree X) (seq (orders (constant d greatestPositive ∷ [])) (blocks (2 ^ m) 5 (costTurn m d)))
 
+  -- how many orders a rank takes
   abbrev pub rankSize : ℕ
   rankSize = 2 ^ m * 1 + (1 + 2 ^ m * 5)
 
+  -- sizes and ranks before each bid and with it, used and accepted amounts
   abbrev pub rankTrees : Orders
   rankTrees =
       seq (rep n (m * 1 + n * (1 + m * 2)) sizeBeforeTree)
@@ -74,34 +85,44 @@ module _ (n m : ℕ) where
 
   -- ---- the flows
 
+  -- what is used in pool p
   abbrev pub placementTree : ℕ → Orders
   placementTree p = seq (orders (constant (Placement p) 0 ∷ [])) (blocks n 2 (placementTurn p))
 
+  -- what line a to b leaves unused
   abbrev pub restTree : (a b : ℕ) → Orders
   restTree a b = seq (orders (sum (Temporary 2) (Capacity a b) ZeroCell ∷ [])) (blocks (2 ^ m) 4 (restTurn a b))
 
+  -- the flow of line l, a to b, and the slacks after it
   abbrev pub takeTree : (l a b : ℕ) → Orders
   takeTree l a b = seq (orders (difference (Flow l) (Capacity a b) (Temporary 2) ∷ [])) (blocks (2 ^ m) 1 (takeTurn l a b))
 
+  -- line l
   abbrev pub lineTree : ℕ → Orders
   lineTree l = seq (restTree (l / m) (l % m)) (takeTree l (l / m) (l % m))
 
+  -- how many orders a line takes
   abbrev pub lineSize : ℕ
   lineSize = (1 + 2 ^ m * 4) + (1 + 2 ^ m * 1)
 
+  -- the slacks before the first line
   abbrev pub slackTree : Orders
   slackTree = seq (subsetTree Placement) (blocks (2 ^ m) 1 slackBlock)
 
+  -- what is used in each pool, the slacks and the flows
   abbrev pub flowTree : Orders
   flowTree = seq (rep m (1 + n * 2) placementTree) (seq slackTree (rep (m * m) lineSize lineTree))
 
   -- ---- the prices
 
+  -- the highest offer in pool p
   abbrev pub highestOfferTree : ℕ → Orders
   highestOfferTree p = seq (orders (constant (HighestOffer p) 0 ∷ [])) (blocks n 5 (highestOfferTurn p))
 
+  -- the offers, the highest in each pool, and the prices
   abbrev pub priceTree : Orders
   priceTree = seq (blocks n 4 offerBlock) (seq (rep m (1 + n * 5) highestOfferTree) (blocks m 3 priceBlock))
 
+  -- all phases, one after another
   abbrev pub work : Orders
   work = seq bidTree (seq cutsTree (seq rankTrees (seq flowTree priceTree)))
