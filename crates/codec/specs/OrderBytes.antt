@@ -2,7 +2,7 @@
 use Prim.Native.Nat.{ℕ, zero, suc, _+_, _<_, _≤_}
 use mathlib.Core.Path.{_≡_, refl, sym, ap, ap₂, _∙_, subst}
 use mathlib.Core.Bool.{Bool, true, false, cond}
-use mathlib.Core.List.{List, [], _∷_, _++_, append-assoc}
+use mathlib.Core.List.{List, [], _∷_, _++_, append-nil, append-assoc}
 use native.Mathlib.Omega.{arith}
 use lib.Dec.{ltb}
 use lib.ListN.{length, drop, length-append, length-drop}
@@ -12,7 +12,7 @@ use Rattle.definitions.specs.declared.Order.{Order}
 use Rattle.definitions.specs.declared.Order.the-variants.{Constant, Sum, Difference, Product, Less, Equal}
 use Rattle.definitions.specs.Limits.{cellCount, modulus}
 use Rattle.definitions.specs.Machine.{WellFormed, ThreeCells}
-use Rattle.definitions.specs.Bytes.{numberLimit, numberBytes, cellsBytes, orderBytes, Number, short, bad, number, readGroups, Read, fault, found, placed, numberAt, below, kindAt, cellAt, constantAt, andThen, cellsOrder, lastAt, restAt, targetAt, orderAt}
+use Rattle.definitions.specs.Bytes.{numberLimit, numberBytes, numbersBytes, numbersOf, orderBytes, Number, short, bad, number, readGroups, Read, fault, found, placed, numberAt, below, kindAt, cellAt, constantAt, andThen, cellsOrder, lastAt, restAt, targetAt, orderAt}
 use Rattle.laws.specs.Tests.{Lt?, less, more, lt?, Eq?, same, diff, eq?}
 use Rattle.codec.specs.Groups as groups
 use Rattle.codec.specs.Groups.{Bytes, groupsLimit}
@@ -28,39 +28,46 @@ number-bytes : (v : ℕ) → Bytes (numberBytes v)
 unfolding numberBytes
 number-bytes v = groups.groups-bytes 5 v
 
-cells-bytes : (kind d a b : ℕ) → Bytes (cellsBytes kind d a b)
-cells-bytes kind d a b = bytes-append (numberBytes kind) (numberBytes d ++ (numberBytes a ++ numberBytes b)) (number-bytes kind) (bytes-append (numberBytes d) (numberBytes a ++ numberBytes b) (number-bytes d) (bytes-append (numberBytes a) (numberBytes b) (number-bytes a) (number-bytes b)))
+numbers-bytes : (vs : List ℕ) → Bytes (numbersBytes vs)
+numbers-bytes [] i = omega arith
+numbers-bytes (v ∷ vs) i = bytes-append (numberBytes v) (numbersBytes vs) (number-bytes v) (numbers-bytes vs) i
 
 pub order-bytes : (o : Order) → Bytes (orderBytes o)
 unfolding orderBytes
-order-bytes (Constant d k) = bytes-append (numberBytes 0) (numberBytes d ++ numberBytes k) (number-bytes 0) (bytes-append (numberBytes d) (numberBytes k) (number-bytes d) (number-bytes k))
-order-bytes (Sum d a b) = cells-bytes 1 d a b
-order-bytes (Difference d a b) = cells-bytes 2 d a b
-order-bytes (Product d a b) = cells-bytes 3 d a b
-order-bytes (Less d a b) = cells-bytes 4 d a b
-order-bytes (Equal d a b) = cells-bytes 5 d a b
+order-bytes o = numbers-bytes (numbersOf o)
 
-length₃ : (x y z : List ℕ) → length (x ++ (y ++ z)) ≡ length x + length y + length z
-length₃ x y z = omega (arith, length-append x (y ++ z), length-append y z)
+-- the bytes of kind 0, and of a kind 1 to 5
+abbrev constantBytes : (d k : ℕ) → List ℕ
+constantBytes d k = numbersBytes (0 ∷ d ∷ k ∷ [])
 
-length₄ : (w x y z : List ℕ) → length (w ++ (x ++ (y ++ z))) ≡ length w + length x + length y + length z
-length₄ w x y z = omega (arith, length-append w (x ++ (y ++ z)), length-append x (y ++ z), length-append y z)
+abbrev cellsBytes : (kind d a b : ℕ) → List ℕ
+cellsBytes kind d a b = numbersBytes (kind ∷ d ∷ a ∷ b ∷ [])
+
+length₃ : (x y z : List ℕ) → length (x ++ (y ++ (z ++ []))) ≡ length x + length y + length z
+length₃ x y z = omega (arith, length-append x (y ++ (z ++ [])), length-append y (z ++ []), length-append z [])
+
+length₄ : (w x y z : List ℕ) → length (w ++ (x ++ (y ++ (z ++ [])))) ≡ length w + length x + length y + length z
+length₄ w x y z = omega (arith, length-append w (x ++ (y ++ (z ++ []))), length₃ x y z)
 
 number-some : (v : ℕ) → 1 ≤ length (numberBytes v)
 unfolding numberBytes
 number-some v = groups.at-least-one 4 v
 
-cells-some : (kind d a b : ℕ) → 3 ≤ length (cellsBytes kind d a b)
-cells-some kind d a b = omega (arith, length₄ (numberBytes kind) (numberBytes d) (numberBytes a) (numberBytes b), number-some kind, number-some d, number-some a)
+numbers-some : (vs : List ℕ) → length vs ≤ length (numbersBytes vs)
+numbers-some [] = omega arith
+numbers-some (v ∷ vs) = omega (arith, length-append (numberBytes v) (numbersBytes vs), number-some v, numbers-some vs)
+
+three-numbers : (o : Order) → 3 ≤ length (numbersOf o)
+three-numbers (Constant d k) = omega arith
+three-numbers (Sum d a b) = omega arith
+three-numbers (Difference d a b) = omega arith
+three-numbers (Product d a b) = omega arith
+three-numbers (Less d a b) = omega arith
+three-numbers (Equal d a b) = omega arith
 
 pub at-least-three : (o : Order) → 3 ≤ length (orderBytes o)
 unfolding orderBytes
-at-least-three (Constant d k) = omega (arith, length₃ (numberBytes 0) (numberBytes d) (numberBytes k), number-some 0, number-some d, number-some k)
-at-least-three (Sum d a b) = cells-some 1 d a b
-at-least-three (Difference d a b) = cells-some 2 d a b
-at-least-three (Product d a b) = cells-some 3 d a b
-at-least-three (Less d a b) = cells-some 4 d a b
-at-least-three (Equal d a b) = cells-some 5 d a b
+at-least-three o = omega (arith, three-numbers o, numbers-some (numbersOf o))
 
 kind-size : (v : ℕ) → v < 6 → length (numberBytes v) ≤ 1
 unfolding numberBytes groupsLimit
@@ -120,8 +127,8 @@ module _ (s : List ℕ) where
   unfolding constantAt
   constant-there at v rest h e = below-there modulus 12 at v rest (omega arith) h e
 
-  constant-order-there : (at d k : ℕ) (rest : List ℕ) → (d < cellCount) × (k < modulus) → drop at s ≡ (numberBytes 0 ++ (numberBytes d ++ numberBytes k)) ++ rest
-      → orderAt s at ≡ found (Constant d k) (at + length (numberBytes 0 ++ (numberBytes d ++ numberBytes k)))
+  constant-order-there : (at d k : ℕ) (rest : List ℕ) → (d < cellCount) × (k < modulus) → drop at s ≡ constantBytes d k ++ rest
+      → orderAt s at ≡ found (Constant d k) (at + length (constantBytes d k))
   unfolding orderAt targetAt restAt
   constant-order-there at d k rest w e =
       let n₁ = kind-there at 0 (numberBytes d ++ (numberBytes k ++ rest)) (omega arith) (simp append-assoc at e) in
@@ -168,6 +175,7 @@ through : {A : Type 0} (r : Read ℕ) (f : ℕ → ℕ → Read A) (a : A) (next
 through (fault k) f a next e = fault-found e
 through (found v mid) f a next e = record { value = v; mid = mid; was = refl; rest = e }
 
+-- a kind 1 to 5 that is read is the kind that is written
 cells-order-bytes : (kind d a b : ℕ) → 0 < kind → kind < 6 → orderBytes (cellsOrder kind d a b) ≡ cellsBytes kind d a b
 unfolding orderBytes
 cells-order-bytes zero d a b h k = absurd (let x : ⊥ = omega arith in x)
@@ -177,6 +185,11 @@ cells-order-bytes (suc (suc (suc zero))) d a b h k = refl
 cells-order-bytes (suc (suc (suc (suc zero)))) d a b h k = refl
 cells-order-bytes (suc (suc (suc (suc (suc zero))))) d a b h k = refl
 cells-order-bytes (suc (suc (suc (suc (suc (suc n)))))) d a b h k = absurd (let x : ⊥ = omega arith in x)
+
+-- the last number apart from those before it
+cells-front : (kind d a b : ℕ) → cellsBytes kind d a b ≡ ((numberBytes kind ++ numberBytes d) ++ numberBytes a) ++ numberBytes b
+cells-front kind d a b =
+    ap (λ (l : List ℕ). numberBytes kind ++ (numberBytes d ++ (numberBytes a ++ l))) (append-nil (numberBytes b)) ∙ sym (simp append-assoc)
 
 cells-order-well-formed : (kind d a b : ℕ) → ThreeCells d a b → WellFormed (cellsOrder kind d a b)
 cells-order-well-formed zero d a b w = w
@@ -188,7 +201,8 @@ cells-order-well-formed (suc (suc (suc (suc (suc n))))) d a b w = w
 
 constant-order-bytes : (d k : ℕ) → orderBytes (Constant d k) ≡ (numberBytes 0 ++ numberBytes d) ++ numberBytes k
 unfolding orderBytes
-constant-order-bytes d k = sym (append-assoc (numberBytes 0) (numberBytes d) (numberBytes k))
+constant-order-bytes d k =
+    ap (λ (l : List ℕ). numberBytes 0 ++ (numberBytes d ++ l)) (append-nil (numberBytes k)) ∙ sym (append-assoc (numberBytes 0) (numberBytes d) (numberBytes k))
 
 bytes-drop : (n : ℕ) (s : List ℕ) → Bytes s → Bytes (drop n s)
 bytes-drop n s b i = rw (getD-drop n s i 0) (b (n + i))
@@ -281,7 +295,7 @@ module _ (s : List ℕ) where
       record {
         wellFormed = subst WellFormed u (cells-order-well-formed kind d a b (hd, ha, l .small));
         bytes = numberBytes b;
-        whole = sym (ap orderBytes u) ∙ cells-order-bytes kind d a b h k ∙ sym (simp append-assoc);
+        whole = sym (ap orderBytes u) ∙ cells-order-bytes kind d a b h k ∙ cells-front kind d a b;
         passed = subst (λ (n : ℕ). Passed at (numberBytes b) n) w (l .passed);
       }
 

@@ -7,10 +7,11 @@ ghost use lib.Seq.{sets};
 ghost use Rattle.definitions.specs.Answers.{refusalOf};
 ghost use Rattle.definitions.specs.Bytes.{mostGroups, groups, numberBytes, orderBytes, readGroups, numberAt, kindAt, cellAt, constantAt, lastAt, restAt, targetAt, orderAt, cellsOrder};
 ghost use Rattle.codec.specs.Answer.{answerAt, orderAnswer, numberAnswer, groupsAnswer, limitedAnswer};
-ghost use Rattle.codec.specs.Written.{numbersOf, writtenSize, writtenBytes};
+ghost use Rattle.codec.specs.Written.{fieldsOf, writtenSize, writtenBytes};
 use definitions::Limits;
 use definitions::Order;
 use definitions::Verdict;
+use definitions::kind;
 
 // A number has at most five groups, and is below 2^32.
 const MOST_GROUPS: usize = 5;
@@ -197,41 +198,42 @@ struct OrderNumbers {
 }
 
 fn numbers_of(order: Order) -> OrderNumbers
-    ensures { λ r. ⌜ r ≡ numbersOf order ⌝ }
+    ensures { λ r. ⌜ r ≡ fieldsOf order ⌝ }
 {
+    let kind = kind(order) as usize;
     match order {
         Order::Constant { d, k } => OrderNumbers {
-            kind: 0,
+            kind,
             d,
             first: k as usize,
             second: 0,
         },
         Order::Sum { d, a, b } => OrderNumbers {
-            kind: 1,
+            kind,
             d,
             first: a,
             second: b,
         },
         Order::Difference { d, a, b } => OrderNumbers {
-            kind: 2,
+            kind,
             d,
             first: a,
             second: b,
         },
         Order::Product { d, a, b } => OrderNumbers {
-            kind: 3,
+            kind,
             d,
             first: a,
             second: b,
         },
         Order::Less { d, a, b } => OrderNumbers {
-            kind: 4,
+            kind,
             d,
             first: a,
             second: b,
         },
         Order::Equal { d, a, b } => OrderNumbers {
-            kind: 5,
+            kind,
             d,
             first: a,
             second: b,

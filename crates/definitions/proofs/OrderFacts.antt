@@ -5,7 +5,7 @@ use lib.ListN.{replicate}
 use Rattle.definitions.specs.declared.Order.the-variants.{Constant, Sum, Difference, Product, Less, Equal}
 use Rattle.definitions.specs.Machine.{times, lessThan, stepOf}
 use Rattle.definitions.specs.Answers.{refuse, none}
-use Rattle.definitions.specs.Bytes.{groups, numberBytes, orderBytes, fault, found, readGroups, numberAt, kindAt, cellAt, constantAt, lastAt, restAt, targetAt, orderAt, parse, parseFrom}
+use Rattle.definitions.specs.Bytes.{groups, numberBytes, numbersOf, orderBytes, fault, found, readGroups, numberAt, kindAt, cellAt, constantAt, lastAt, restAt, targetAt, orderAt, parse, parseFrom}
 use Rattle.definitions.specs.Calls.{runRefusal, cellsRefusal, firstFrom}
 
 -- examples 8 and 9, and the comparison's other side
@@ -23,6 +23,24 @@ kinds :
     ∷ []
     ≡ (9 ∷ 5 ∷ 7 ∷ []) ∷ (3 ∷ 5 ∷ 8 ∷ []) ∷ (3 ∷ 5 ∷ 2147483645 ∷ []) ∷ (9 ∷ 5 ∷ 7 ∷ []) ∷ (3 ∷ 1 ∷ 7 ∷ []) ∷ (3 ∷ 0 ∷ 7 ∷ []) ∷ []
 kinds = refl
+
+-- "An order begins with its kind": the bytes of each case, and its order read back
+kind-numbers :
+    numbersOf (Constant 9 8) ∷ numbersOf (Sum 9 8 7) ∷ numbersOf (Difference 9 8 7) ∷ numbersOf (Product 9 8 7) ∷ numbersOf (Less 9 8 7) ∷ numbersOf (Equal 9 8 7) ∷ []
+    ≡ (0 ∷ 9 ∷ 8 ∷ []) ∷ (1 ∷ 9 ∷ 8 ∷ 7 ∷ []) ∷ (2 ∷ 9 ∷ 8 ∷ 7 ∷ []) ∷ (3 ∷ 9 ∷ 8 ∷ 7 ∷ []) ∷ (4 ∷ 9 ∷ 8 ∷ 7 ∷ []) ∷ (5 ∷ 9 ∷ 8 ∷ 7 ∷ []) ∷ []
+kind-numbers = refl
+
+kinds-read :
+    orderAt (orderBytes (Constant 9 8)) 0
+    ∷ orderAt (orderBytes (Sum 9 8 7)) 0
+    ∷ orderAt (orderBytes (Difference 9 8 7)) 0
+    ∷ orderAt (orderBytes (Product 9 8 7)) 0
+    ∷ orderAt (orderBytes (Less 9 8 7)) 0
+    ∷ orderAt (orderBytes (Equal 9 8 7)) 0
+    ∷ []
+    ≡ found (Constant 9 8) 3 ∷ found (Sum 9 8 7) 4 ∷ found (Difference 9 8 7) 4 ∷ found (Product 9 8 7) 4 ∷ found (Less 9 8 7) 4 ∷ found (Equal 9 8 7) 4 ∷ []
+unfolding orderBytes numberBytes groups orderAt targetAt restAt lastAt kindAt cellAt constantAt numberAt readGroups
+kinds-read = refl
 
 -- example 10: 00 AC 02 FE FF FF FF 07
 constant : orderBytes (Constant 300 2147483646) ≡ 0 ∷ 172 ∷ 2 ∷ 254 ∷ 255 ∷ 255 ∷ 255 ∷ 7 ∷ []

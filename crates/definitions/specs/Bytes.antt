@@ -7,7 +7,7 @@ use lib.ListN.{length, drop}
 use Rattle.definitions.specs.declared.Order.{Order}
 use Rattle.definitions.specs.declared.Order.the-variants.{Constant, Sum, Difference, Product, Less, Equal}
 use Rattle.definitions.specs.Limits.{cellCount, modulus}
-use Rattle.definitions.specs.Answers.{Refusal, none, refuse}
+use Rattle.definitions.specs.Answers.{Refusal, none, refuse, kindOf}
 
 -- ---- Writing
 
@@ -21,24 +21,35 @@ groups (suc g) v = cond (ltb v 128) (v ∷ []) ((v % 128 + 128) ∷ groups g (v 
 abbrev pub mostGroups : ℕ
 mostGroups = 5
 
+-- "below 2^32"
 abbrev pub numberLimit : ℕ
 numberLimit = 4294967296
 
+-- a number's bytes, "the shortest form only"; those of a number of 2^32 or more are refused when read, by 11
 unfoldable pub numberBytes : ℕ → List ℕ
 numberBytes v = groups mostGroups v
 
--- the kind, d, and two cells
-abbrev pub cellsBytes : (kind d a b : ℕ) → List ℕ
-cellsBytes kind d a b = numberBytes kind ++ (numberBytes d ++ (numberBytes a ++ numberBytes b))
+-- the bytes of some numbers, one after another
+abbrev pub numbersBytes : List ℕ → List ℕ
+numbersBytes [] = []
+numbersBytes (v ∷ vs) = numberBytes v ++ numbersBytes vs
+
+-- "d, then k or a, b"
+abbrev pub operandsOf : Order → List ℕ
+operandsOf (Constant d k) = d ∷ k ∷ []
+operandsOf (Sum d a b) = d ∷ a ∷ b ∷ []
+operandsOf (Difference d a b) = d ∷ a ∷ b ∷ []
+operandsOf (Product d a b) = d ∷ a ∷ b ∷ []
+operandsOf (Less d a b) = d ∷ a ∷ b ∷ []
+operandsOf (Equal d a b) = d ∷ a ∷ b ∷ []
+
+-- "An order begins with its kind": all its numbers, in the order of their bytes
+abbrev pub numbersOf : Order → List ℕ
+numbersOf o = kindOf o ∷ operandsOf o
 
 -- "In bytes an order is its kind, d, then k or a, b."
 unfoldable pub orderBytes : Order → List ℕ
-orderBytes (Constant d k) = numberBytes 0 ++ (numberBytes d ++ numberBytes k)
-orderBytes (Sum d a b) = cellsBytes 1 d a b
-orderBytes (Difference d a b) = cellsBytes 2 d a b
-orderBytes (Product d a b) = cellsBytes 3 d a b
-orderBytes (Less d a b) = cellsBytes 4 d a b
-orderBytes (Equal d a b) = cellsBytes 5 d a b
+orderBytes o = numbersBytes (numbersOf o)
 
 -- "The plan's bytes are those of its orders, one after another."
 unfoldable pub ordersBytes : List Order → List ℕ
@@ -81,6 +92,7 @@ placed at short = fault 9
 placed at bad = fault 11
 placed at (number v n) = cond (ltb v numberLimit) (found v (at + n)) (fault 11)
 
+-- the number at an offset
 unfoldable pub numberAt : List ℕ → (at : ℕ) → Read ℕ
 numberAt s at = placed at (readGroups mostGroups true (drop at s))
 
@@ -93,10 +105,11 @@ below limit refusal (found v next) = cond (ltb v limit) (found v next) (fault re
 unfoldable pub kindAt : List ℕ → (at : ℕ) → Read ℕ
 kindAt s at = below 6 10 (numberAt s at)
 
--- 12, "a cell of 4,096 or more, or a constant of p or more"
+-- 12, "a cell of 4,096 or more"
 unfoldable pub cellAt : List ℕ → (at : ℕ) → Read ℕ
 cellAt s at = below cellCount 12 (numberAt s at)
 
+-- 12, "or a constant of p or more"
 unfoldable pub constantAt : List ℕ → (at : ℕ) → Read ℕ
 constantAt s at = below modulus 12 (numberAt s at)
 
@@ -105,7 +118,8 @@ abbrev pub andThen : {A : Type 0} → Read ℕ → (ℕ → ℕ → Read A) → 
 andThen (fault k) f = fault k
 andThen (found v next) f = f v next
 
--- the order of a kind 1 to 5
+-- the order of a kind, 1 to 5: "1, 2, 3: .. the sum, the difference, the product", 4 "less", 5 "equal";
+-- kind 0 does not come here: `restAt` reads its constant
 abbrev pub cellsOrder : (kind d a b : ℕ) → Order
 cellsOrder zero d a b = Equal d a b
 cellsOrder (suc zero) d a b = Sum d a b
@@ -114,16 +128,18 @@ cellsOrder (suc (suc (suc zero))) d a b = Product d a b
 cellsOrder (suc (suc (suc (suc zero)))) d a b = Less d a b
 cellsOrder (suc (suc (suc (suc (suc k))))) d a b = Equal d a b
 
--- what follows the kind, the target and, for kinds 1 to 5, the first cell
+-- what follows the kind, the target and the first cell: the second cell
 unfoldable pub lastAt : List ℕ → (kind d a at : ℕ) → Read Order
 lastAt s kind d a at = andThen (cellAt s at) (λ b next. found (cellsOrder kind d a b) next)
 
+-- what follows the kind and the target: k for kind 0, else a, b
 unfoldable pub restAt : List ℕ → (kind d at : ℕ) → Read Order
 restAt s kind d at =
     cond (eqb kind 0)
     (andThen (constantAt s at) (λ k next. found (Constant d k) next))
     (andThen (cellAt s at) (λ a next. lastAt s kind d a next))
 
+-- what follows the kind: "then a target cell d"
 unfoldable pub targetAt : List ℕ → (kind at : ℕ) → Read Order
 targetAt s kind at = andThen (cellAt s at) (λ d next. restAt s kind d next)
 
@@ -138,12 +154,15 @@ pub record Parsed : Type 0 where
   pub orders : List Order
   pub refusal : Refusal
 
+-- no order more: the bytes have ended, or the next order is refused
 abbrev pub noOrders : Refusal → Parsed
 noOrders r = record { orders = []; refusal = r }
 
+-- an order before the others
 abbrev pub oneMore : Order → Parsed → Parsed
 oneMore o rest = record { orders = o ∷ rest .orders; refusal = rest .refusal }
 
+-- the order read at an offset, or its refusal there, and what follows it
 abbrev pub continue : (at : ℕ) → Read Order → (ℕ → Parsed) → Parsed
 continue at (fault k) more = noOrders (refuse k at)
 continue at (found o next) more = oneMore o (more next)

@@ -5,6 +5,7 @@ use mathlib.Core.List.{List}
 use lib.ListN.{set}
 use Rattle.definitions.specs.declared.Order.{Order}
 use Rattle.definitions.specs.declared.Order.the-variants.{Constant, Sum, Difference, Product, Less, Equal}
+use Rattle.definitions.specs.Answers.{kindOf}
 use Rattle.definitions.specs.Machine.{cell, plus, minus, times, lessThan, sameAs, stepOf}
 use Rattle.machine.specs.declared.Parts.{Parts}
 
@@ -18,14 +19,16 @@ resultOf (suc (suc (suc (suc zero)))) k x y = lessThan x y
 resultOf (suc (suc (suc (suc (suc zero))))) k x y = sameAs x y
 resultOf (suc (suc (suc (suc (suc (suc kind)))))) k x y = 0
 
+-- an order's numbers: its kind, its target, and its constant or its two cells, 0 where it has none
 abbrev pub partsOf : Order → Parts
-partsOf (Constant d k) = record { kind = 0; d = d; k = k; a = 0; b = 0 }
-partsOf (Sum d a b) = record { kind = 1; d = d; k = 0; a = a; b = b }
-partsOf (Difference d a b) = record { kind = 2; d = d; k = 0; a = a; b = b }
-partsOf (Product d a b) = record { kind = 3; d = d; k = 0; a = a; b = b }
-partsOf (Less d a b) = record { kind = 4; d = d; k = 0; a = a; b = b }
-partsOf (Equal d a b) = record { kind = 5; d = d; k = 0; a = a; b = b }
+partsOf (Constant d k) = record { kind = kindOf (Constant d k); d = d; k = k; a = 0; b = 0 }
+partsOf (Sum d a b) = record { kind = kindOf (Sum d a b); d = d; k = 0; a = a; b = b }
+partsOf (Difference d a b) = record { kind = kindOf (Difference d a b); d = d; k = 0; a = a; b = b }
+partsOf (Product d a b) = record { kind = kindOf (Product d a b); d = d; k = 0; a = a; b = b }
+partsOf (Less d a b) = record { kind = kindOf (Less d a b); d = d; k = 0; a = a; b = b }
+partsOf (Equal d a b) = record { kind = kindOf (Equal d a b); d = d; k = 0; a = a; b = b }
 
+-- the sheet after one store of what they make
 abbrev pub store : List ℕ → Parts → List ℕ
 store s q = set s (q .d) (resultOf (q .kind) (q .k) (cell s (q .a)) (cell s (q .b)))
 

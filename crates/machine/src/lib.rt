@@ -6,6 +6,7 @@ ghost use Rattle.definitions.specs.Machine.{IsSheet, WellFormed, stepOf, plus, 
 ghost use Rattle.machine.specs.Parts.{partsOf, resultOf};
 use definitions::Limits;
 use definitions::Order;
+use definitions::kind;
 use residues::reading;
 
 // Orders 1, 2, 3: the sum, the difference, the product modulo p.
@@ -77,44 +78,45 @@ struct Parts {
 fn parts_of(order: Order) -> Parts
     ensures { λ r. ⌜ r ≡ partsOf order ⌝ }
 {
+    let kind = kind(order);
     match order {
         Order::Constant { d, k } => Parts {
-            kind: 0,
+            kind,
             d,
             k,
             a: 0,
             b: 0,
         },
         Order::Sum { d, a, b } => Parts {
-            kind: 1,
+            kind,
             d,
             k: 0,
             a,
             b,
         },
         Order::Difference { d, a, b } => Parts {
-            kind: 2,
+            kind,
             d,
             k: 0,
             a,
             b,
         },
         Order::Product { d, a, b } => Parts {
-            kind: 3,
+            kind,
             d,
             k: 0,
             a,
             b,
         },
         Order::Less { d, a, b } => Parts {
-            kind: 4,
+            kind,
             d,
             k: 0,
             a,
             b,
         },
         Order::Equal { d, a, b } => Parts {
-            kind: 5,
+            kind,
             d,
             k: 0,
             a,

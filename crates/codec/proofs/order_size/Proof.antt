@@ -5,14 +5,14 @@ use native.Mathlib.Omega.{arith}
 use lib.ListN.{length, length-append}
 use borrow.Author.Tests.{eq-eqb, ne-eqb}
 use Rattle.definitions.specs.Bytes.{numberBytes, orderBytes}
-use Rattle.codec.proofs.Stores.{headBytes, numbersBytes, bytes-numbers}
+use Rattle.codec.proofs.Stores.{headBytes, fieldsBytes, bytes-numbers}
 use borrow.Author.Needs.{needs}
 use Rattle.codec.proofs.order_size.Statement.{statement}
 use Rattle.codec.proofs.order_size.Tie as tie
 
 -- the order's bytes by its numbers
-whole : (c : tie.After-numbers-of) → orderBytes (c .before .args .order) ≡ numbersBytes (c .numbers-of .result)
-whole c = bytes-numbers (c .before .args .order) ∙ ap numbersBytes (sym (c .numbers-of .ensures))
+whole : (c : tie.After-numbers-of) → orderBytes (c .before .args .order) ≡ fieldsBytes (c .numbers-of .result)
+whole c = bytes-numbers (c .before .args .order) ∙ ap fieldsBytes (sym (c .numbers-of .ensures))
 
 numbers-of-requires : tie.Need-numbers-of-requires
 numbers-of-requires c κs = search needs

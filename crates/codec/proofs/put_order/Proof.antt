@@ -8,14 +8,14 @@ use lib.Dec.{eqb}
 use lib.ListN.{length, length-append}
 use borrow.Author.Tests.{eq-eqb, ne-eqb}
 use Rattle.definitions.specs.Bytes.{numberBytes, orderBytes}
-use Rattle.codec.proofs.Stores.{both, second-room, headBytes, numbersBytes, bytes-numbers}
+use Rattle.codec.proofs.Stores.{both, second-room, headBytes, fieldsBytes, bytes-numbers}
 use borrow.Author.Needs.{needs}
 use Rattle.codec.proofs.put_order.Statement.{statement}
 use Rattle.codec.proofs.put_order.Tie as tie
 
 -- the order's bytes by its numbers: for any kind, for kind 0, for kinds 1 to 5
-whole : (c : tie.After-numbers-of) → orderBytes (c .before .before .args .order) ≡ numbersBytes (c .numbers-of .result)
-whole c = bytes-numbers (c .before .before .args .order) ∙ ap numbersBytes (sym (c .numbers-of .ensures))
+whole : (c : tie.After-numbers-of) → orderBytes (c .before .before .args .order) ≡ fieldsBytes (c .numbers-of .result)
+whole c = bytes-numbers (c .before .before .args .order) ∙ ap fieldsBytes (sym (c .numbers-of .ensures))
 
 constant-is : (c : tie.Then1) → let n = c .before .before .before .before .before .before .numbers-of .result in orderBytes (c .before .before .before .before .before .before .before .before .args .order) ≡ headBytes n ++ numberBytes (n .first)
 constant-is c = whole (c .before .before .before .before .before .before) ∙ simp (eq-eqb _ _ (c .if1 .taken))
