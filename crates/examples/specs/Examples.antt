@@ -1,16 +1,18 @@
--- 'Proved examples' 1 to 10 of document 01, in one statement, from the definitions and the theory of the best clearing.
+-- 'Proved examples' 1 to 10 of document 01 and its 'Edges', in one statement, from the definitions and the theory of the best clearing.
 use Prim.Native.Nat.{ℕ, zero, suc, _*_, _≤_, _<_, _/_, _%_}
 use mathlib.Core.Path.{_≡_, refl, sym, ap₂, _∙_}
 use mathlib.Core.List.{List, [], _∷_}
 use native.Mathlib.Omega.{arith}
 use lib.IntN.{ℤ, pos, negℤ}
 use Rattle.definitions.specs.declared.Order.the-variants.{Constant}
+use Rattle.definitions.specs.Limits.{cellCount}
 use Rattle.definitions.specs.Arithmetic.{sumTo, sumZ}
 use Rattle.definitions.specs.Book.{Book, book}
 use Rattle.definitions.specs.Clearing.{Clearing, Best, Permitted, welfare, PoolPrice, missing, present, poolPrice, highest, sold, bought, inflow, outflow, before}
 use Rattle.definitions.specs.Machine.{times, lessThan}
 use Rattle.definitions.specs.Bytes.{orderBytes, numberBytes, groups}
-use Rattle.definitions.specs.Calls.{AcceptedBook, sealRefusal, bidsRefusal, capacitiesRefusal, rowRefusal, firstFrom}
+use Rattle.definitions.specs.Answers.{none, refuse}
+use Rattle.definitions.specs.Calls.{AcceptedBook, bidRefusal, sealRefusal, bidsRefusal, capacitiesRefusal, rowRefusal, firstFrom}
 use Rattle.laws.specs.Extremes.{minTo}
 use Rattle.theory.specs.Subsets.{member}
 use Rattle.theory.specs.ClosedForms.{subsetSum, demand, cut, ahead, reach, rank, usedAmount, acceptedAmount}
@@ -79,7 +81,25 @@ bookSix =
 unfoldable pub bookSeven : Book
 bookSeven = book 0 2 [] (pos 0 ∷ pos 7 ∷ pos 7 ∷ pos 0 ∷ [])
 
+-- k times the bid (1,0,1)
+unfoldable pub bidsOf : ℕ → List ℤ
+bidsOf zero = []
+bidsOf (suc k) = pos 1 ∷ pos 0 ∷ pos 1 ∷ bidsOf k
+
+-- one pool, with n such bids
+unfoldable pub bookOf : ℕ → Book
+bookOf n = book n 1 (bidsOf n) (pos 0 ∷ [])
+
 -- ---- the statement
+
+-- "Edges: price 30,000 passes, 30,001 is 5; quantity −65,535 passes, −65,536 is 6; 64 bids pass, 65 are 1."
+pub record Edges : Type 0 where
+  pub price-passes : bidRefusal 1 (pos 1) (pos 30000) (pos 1) ≡ none
+  pub price-is-5 : bidRefusal 1 (pos 1) (pos 30001) (pos 1) ≡ refuse 5 0
+  pub quantity-passes : bidRefusal 1 (pos 1) (pos 0) (negℤ (pos 65535)) ≡ none
+  pub quantity-is-6 : bidRefusal 1 (pos 1) (pos 0) (negℤ (pos 65536)) ≡ refuse 6 0
+  pub bids-pass : AcceptedBook (bookOf 64)
+  pub bids-are-1 : sealRefusal (bookOf 65) cellCount ≡ refuse 1 0
 
 pub record ProvedExamples : Type 0 where
   -- "m 1; (1,20,−10), (1,30,6): accepted 6, 6; welfare 60; price 20."
@@ -102,6 +122,7 @@ pub record ProvedExamples : Type 0 where
   pub nine : lessThan 1073741824 0 ≡ 1
   -- "Constant p − 1 to cell 300: hexadecimal 00 AC 02 FE FF FF FF 07."
   pub ten : orderBytes (Constant 300 2147483646) ≡ 0 ∷ 172 ∷ 2 ∷ 254 ∷ 255 ∷ 255 ∷ 255 ∷ 7 ∷ []
+  pub edges : Edges
 
 -- ---- the proofs
 
@@ -147,6 +168,17 @@ seven-flows c q =
     let f : c .flow 0 1 ≡ 0 = zero-or (c .flow 0 1) (λ l. d ∙ q .one-way 0 1 (omega arith) (omega arith) l) in
     rw (a, b, f, sym d ∙ f) refl
 
+edges-hold : Edges
+unfolding bookOf bidsOf sealRefusal bidsRefusal capacitiesRefusal rowRefusal firstFrom
+edges-hold = record {
+  price-passes = refl;
+  price-is-5 = refl;
+  quantity-passes = refl;
+  quantity-is-6 = refl;
+  bids-pass = refl;
+  bids-are-1 = refl;
+}
+
 pub proved-examples : ProvedExamples
 unfolding bookOne bookTwo bookThree bookFour bookFive bookSix bookSeven listed sealRefusal bidsRefusal capacitiesRefusal rowRefusal firstFrom member subsetSum demand cut ahead reach rank usedAmount acceptedAmount before sumTo minTo poolPrice highest welfare sumZ orderBytes numberBytes groups
 proved-examples = record {
@@ -160,4 +192,5 @@ proved-examples = record {
   eight = refl;
   nine = refl;
   ten = refl;
+  edges = edges-hold;
 }
