@@ -11,15 +11,17 @@ pub data Refusal : Type 0 where
   none : Refusal
   refuse : (number place : ℕ) → Refusal
 
--- "the refusal number, 0 for none", and the place
+-- "the refusal number, 0 for none"
 abbrev pub numberOf : Refusal → ℕ
 numberOf none = 0
 numberOf (refuse number place) = number
 
+-- its place, 0 for none
 abbrev pub placeOf : Refusal → ℕ
 placeOf none = 0
 placeOf (refuse number place) = place
 
+-- "it gives no refusal"
 abbrev pub isNone : Refusal → Bool
 isNone none = true
 isNone (refuse number place) = false

@@ -24,6 +24,7 @@ sumZ (suc n) f = sumZ n f +ℤ f n
 abbrev pub within : ℤ → ℤ → ℤ → Bool
 within low high z = leZ low z && leZ z high
 
+-- two whole numbers are equal
 abbrev pub eqZ : ℤ → ℤ → Bool
 eqZ (pos a) (pos b) = eqb a b
 eqZ (pos a) (negsuc b) = false

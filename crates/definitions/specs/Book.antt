@@ -16,23 +16,27 @@ pub record Book : Type 0 where
   pub bids : List ℤ
   pub capacities : List ℤ
 
+-- a book of these
 abbrev pub book : (n m : ℕ) (bids capacities : List ℤ) → Book
 book n m bids capacities = record { n = n; m = m; bids = bids; capacities = capacities }
 
--- "A bid is three signed 32-bit numbers: pool 1 to m, limit price .., quantity .."
+-- "A bid is three signed 32-bit numbers: pool 1 to m"
 abbrev pub pool : Book → ℕ → ℤ
 pool B i = getD (B .bids) (bidNumbers * i) (pos 0)
 
+-- "limit price"
 abbrev pub price : Book → ℕ → ℤ
 price B i = getD (B .bids) (bidNumbers * i + 1) (pos 0)
 
+-- "quantity"
 abbrev pub quantity : Book → ℕ → ℤ
 quantity B i = getD (B .bids) (bidNumbers * i + 2) (pos 0)
 
--- "positive buys, negative sells, 0 is a withdrawn bid and counts as a sale of 0"
+-- "positive buys"
 abbrev pub purchase : Book → ℕ → Bool
 purchase B i = ltZ (pos 0) (quantity B i)
 
+-- "negative sells, 0 is a withdrawn bid and counts as a sale of 0"
 abbrev pub sale : Book → ℕ → Bool
 sale B i = not (purchase B i)
 

@@ -64,10 +64,11 @@ capacityFault diagonal entry =
 abbrev pub entryRefusal : Book → (a b : ℕ) → Refusal
 entryRefusal B a b = numbered (capacityFault (eqb a b) (capacityEntry B a b)) (a * B .m + b + 1)
 
--- "the first bad capacity in row order ends the search"
+-- of one row: its first bad entry
 unfoldable pub rowRefusal : Book → ℕ → Refusal
 rowRefusal B a = firstFrom 0 (B .m) (λ b. entryRefusal B a b)
 
+-- "the first bad capacity in row order ends the search"
 unfoldable pub capacitiesRefusal : Book → Refusal
 capacitiesRefusal B = firstFrom 0 (B .m) (λ a. rowRefusal B a)
 
@@ -100,6 +101,7 @@ cellsRefusal sheet = firstFrom 0 (length sheet) (λ c. cond (ltb (cell sheet c) 
 
 -- ---- Opening
 
+-- of n, m, the sheet and the length of the slice for the results: 1, 2, 3, then 15
 unfoldable pub openRefusal : (n m : ℕ) (sheet : List ℕ) (results : ℕ) → Refusal
 openRefusal n m sheet results =
     first (countsRefusal n m)
@@ -116,11 +118,13 @@ openSlice n m sheet out = unless (openRefusal n m sheet (length out)) (openedRes
 
 -- ---- The runner: "checks all its bytes, then runs them and gives the count of orders"
 
+-- 3, then 15, "Then orders, number by number"; "No bytes is an accepted run of 0 orders."
 unfoldable pub runRefusal : (sheet bytes : List ℕ) → Refusal
 runRefusal sheet bytes =
     first (lengthRefusal (eqb (length sheet) cellCount))
     (first (cellsRefusal sheet) (parse bytes .refusal))
 
+-- the sheet that the runner leaves
 unfoldable pub runSheet : (sheet bytes : List ℕ) → List ℕ
 runSheet sheet bytes = unless (runRefusal sheet bytes) (runOf (parse bytes .orders) sheet) sheet
 

@@ -14,16 +14,19 @@ pub record Clearing : Type 0 where
   pub accepted : ℕ → ℕ
   pub flow : ℕ → ℕ → ℕ
 
--- Per pool: accepted sales, accepted purchases, inflow, outflow
+-- "In each pool, accepted sales plus inflow equal accepted purchases plus outflow": pool p's accepted sales
 unfoldable pub sold : Book → (ℕ → ℕ) → ℕ → ℕ
 sold B accepted p = sumTo (B .n) (λ i. on (sale B i && inPool B p i) (accepted i))
 
+-- its accepted purchases
 unfoldable pub bought : Book → (ℕ → ℕ) → ℕ → ℕ
 bought B accepted p = sumTo (B .n) (λ i. on (purchase B i && inPool B p i) (accepted i))
 
+-- its inflow: the flows on the lines a to p
 unfoldable pub inflow : Book → (ℕ → ℕ → ℕ) → ℕ → ℕ
 inflow B flow p = sumTo (B .m) (λ a. flow a p)
 
+-- its outflow: the flows on the lines p to b
 unfoldable pub outflow : Book → (ℕ → ℕ → ℕ) → ℕ → ℕ
 outflow B flow p = sumTo (B .m) (λ b. flow p b)
 
@@ -83,6 +86,7 @@ pub data PoolPrice : Type 0 where
   missing : PoolPrice
   present : ℤ → PoolPrice
 
+-- the higher of a price, if there is one, and another
 abbrev pub higher : PoolPrice → ℤ → PoolPrice
 higher missing z = present z
 higher (present y) z = present (cond (ltZ y z) z y)
@@ -96,11 +100,12 @@ highest B accepted p (suc k) = cond (sells B accepted p k) (higher (highest B ac
 unfoldable pub poolPrice : Book → (ℕ → ℕ) → ℕ → PoolPrice
 poolPrice B accepted p = highest B accepted p (B .n)
 
--- its two cells: "with none, both cells are 0"
+-- "with none, both cells are 0": its price cell
 abbrev pub priceResidue : PoolPrice → ℕ
 priceResidue missing = 0
 priceResidue (present z) = residue z
 
+-- "a presence cell (1 present, 0 missing)"
 abbrev pub presence : PoolPrice → ℕ
 presence missing = 0
 presence (present z) = 1

@@ -20,20 +20,23 @@ pub record IsSheet (s : List ℕ) : Type 0 where
   pub cells : length s ≡ cellCount
   pub below : (c : ℕ) → cell s c < modulus
 
--- Orders 1 to 5: "the sum, the difference, the product of cells a and b, modulo p";
--- "1 if a, read with sign, is less than b read with sign, else 0"; "1 if a and b are equal, else 0"
+-- Order 1: "the sum, the difference, the product of cells a and b, modulo p"
 abbrev pub plus : ℕ → ℕ → ℕ
 plus x y = (x + y) % modulus
 
+-- order 2
 abbrev pub minus : ℕ → ℕ → ℕ
 minus x y = (x + modulus - y) % modulus
 
+-- order 3
 abbrev pub times : ℕ → ℕ → ℕ
 times x y = (x * y) % modulus
 
+-- order 4: "1 if a, read with sign, is less than b read with sign, else 0"
 abbrev pub lessThan : ℕ → ℕ → ℕ
 lessThan x y = cond (ltZ (reading x) (reading y)) 1 0
 
+-- order 5: "1 if a and b are equal, else 0"
 abbrev pub sameAs : ℕ → ℕ → ℕ
 sameAs x y = cond (eqb x y) 1 0
 

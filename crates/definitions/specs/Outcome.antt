@@ -41,12 +41,14 @@ orderLimit n m = n * (100 * n + 40 * (m + 1) ^ 6) + 10000
 unfoldable pub planRun : Plan → Book → List ℕ
 planRun plan B = runOf (plan (B .n) (B .m)) (sealedSheet B)
 
+-- the sheet that clearing leaves: "the machine's run of it from the sealed sheet"
 unfoldable pub clearSheet : Plan → Book → List ℕ → List ℕ
 clearSheet plan B sheet = unless (sealRefusal B (length sheet)) (planRun plan B) sheet
 
--- "counts, welfare .. are then 0"
+-- "counts, welfare and next position are then 0": the count of orders
 unfoldable pub clearCount : Plan → Book → (cells : ℕ) → ℕ
 clearCount plan B cells = unless (sealRefusal B cells) (length (plan (B .n) (B .m))) 0
 
+-- and the welfare
 unfoldable pub clearWelfare : Plan → Book → (cells : ℕ) → ℤ
 clearWelfare plan B cells = unless (sealRefusal B cells) (welfare B (resultOf B (planRun plan B) .accepted)) (pos 0)

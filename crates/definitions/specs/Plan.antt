@@ -29,29 +29,34 @@ entry orders at = cond (ltb at (length orders)) (order (getD orders at (Constant
 abbrev pub positionRefusal : List Order → ℕ → Refusal
 positionRefusal orders at = cond (ltb (length orders) at) (refuse 13 0) none
 
+-- "Each refusal is .. given exactly under its condition": the refusal if there is one, else the answer
 abbrev pub answered : Refusal → Answer → Answer
 answered none answer = answer
 answered (refuse number place) answer = refused (refuse number place)
 
+-- of asking: "Numbers 1, 2, 3 come first, lowest first, then 13"
 unfoldable pub askRefusal : Plan → (n m at : ℕ) → Refusal
 askRefusal plan n m at = first (countsRefusal n m) (positionRefusal (plan n m) at)
 
+-- "Asked for at a position, it gives either an order with the position after it, or that the plan has ended"; or it refuses
 unfoldable pub asked : Plan → (n m at : ℕ) → Answer
 asked plan n m at = answered (askRefusal plan n m at) (entry (plan n m) at)
 
 -- "the number of orders got by asking at 0 and then at each position handed back, until the plan has ended":
--- the orders so got from a position on, k of them at most
+-- what one answer gives, and what the next position gives after it
 abbrev pub collect : Answer → (ℕ → List Order) → List Order
 collect (order o next) more = o ∷ more next
 collect ended more = []
 collect (refused r) more = []
 
+-- the orders so got from a position on, k of them at most
 unfoldable pub collected : (ask : ℕ → Answer) (k at : ℕ) → List Order
 collected ask zero at = []
 collected ask (suc k) at = collect (ask at) (λ next. collected ask k next)
 
 -- ---- The total
 
+-- "the total is known from n and m", and is "the length of this list"; 0 if the counts are refused
 unfoldable pub total : Plan → (n m : ℕ) → ℕ
 total plan n m = unless (countsRefusal n m) (length (plan n m)) 0
 
@@ -66,24 +71,29 @@ fitting (o ∷ os) room = cond (leb (length (orderBytes o)) room) (suc (fitting 
 abbrev pub roomRefusal : ℕ → Refusal
 roomRefusal room = cond (ltb room 8) (refuse 14 0) none
 
+-- of the writer: "then 13, 14 .. in this order"
 unfoldable pub writeRefusal : Plan → (n m at room : ℕ) → Refusal
 writeRefusal plan n m at room = first (askRefusal plan n m at) (roomRefusal room)
 
--- "the counts of bytes and orders and the next position"
+-- how many orders the writer writes from a position
 unfoldable pub ordersWritten : Plan → (n m at room : ℕ) → ℕ
 ordersWritten plan n m at room = fitting (drop at (plan n m)) room
 
+-- and their bytes, "from a position .. as many whole orders as fit"
 unfoldable pub bytesWritten : Plan → (n m at room : ℕ) → List ℕ
 bytesWritten plan n m at room = ordersBytes (take (ordersWritten plan n m at room) (drop at (plan n m)))
 
+-- "the counts of bytes and orders and the next position"
 pub record Written : Type 0 where
   pub bytes : ℕ
   pub orders : ℕ
   pub next : ℕ
 
+-- all three 0, after a refusal
 abbrev pub nothingWritten : Written
 nothingWritten = record { bytes = 0; orders = 0; next = 0 }
 
+-- the three after an accepted call: the next position is the orders written further on
 unfoldable pub writtenCounts : Plan → (n m at room : ℕ) → Written
 writtenCounts plan n m at room =
     record {
@@ -100,6 +110,7 @@ writeCounts plan n m at room = unless (writeRefusal plan n m at room) (writtenCo
 abbrev pub over : (bytes out : List ℕ) → List ℕ
 over bytes out = bytes ++ drop (length bytes) out
 
+-- "all lent slices are unchanged" after a refusal
 unfoldable pub writeSlice : Plan → (n m at : ℕ) → List ℕ → List ℕ
 writeSlice plan n m at out =
     unless (writeRefusal plan n m at (length out)) (over (bytesWritten plan n m at (length out)) out) out
@@ -115,6 +126,7 @@ lowestFirst (suc k) v = v % 256 ∷ lowestFirst k (v / 256)
 unfoldable pub totalRefusal : (n m out : ℕ) → Refusal
 totalRefusal n m out = first (countsRefusal n m) (lengthRefusal (eqb out 8))
 
+-- the slice that takes the total, after the call
 unfoldable pub totalSlice : Plan → (n m : ℕ) → List ℕ → List ℕ
 totalSlice plan n m out = unless (totalRefusal n m (length out)) (lowestFirst 8 (length (plan n m))) out
 
@@ -125,13 +137,16 @@ bytesRefusal plan n m at room out =
     (first (lengthRefusal (eqb out 24))
     (first (positionRefusal (plan n m) at) (roomRefusal room)))
 
+-- the three numbers, 8 bytes each
 abbrev pub countBytes : Written → List ℕ
 countBytes w = lowestFirst 8 (w .bytes) ++ (lowestFirst 8 (w .orders) ++ lowestFirst 8 (w .next))
 
+-- the slice that takes the plan's bytes, after the call
 unfoldable pub bytesSlice : Plan → (n m at : ℕ) → (bytes : List ℕ) (out : ℕ) → List ℕ
 bytesSlice plan n m at bytes out =
     unless (bytesRefusal plan n m at (length bytes) out) (over (bytesWritten plan n m at (length bytes)) bytes) bytes
 
+-- and the slice that takes the three numbers
 unfoldable pub countsSlice : Plan → (n m at room : ℕ) → List ℕ → List ℕ
 countsSlice plan n m at room out =
     unless (bytesRefusal plan n m at room (length out)) (countBytes (writtenCounts plan n m at room)) out

@@ -20,15 +20,17 @@ use Rattle.definitions.specs.Outcome.{planRun, clearWelfare}
 abbrev pub blank : ℕ → Bool
 blank byte = eqb byte 32 || eqb byte 10
 
--- the words of a text, the bytes between blanks; `word` is what was read of the first one
+-- a word that has ended; between two blanks there is none
 abbrev pub ended : List ℕ → List (List ℕ)
 ended [] = []
 ended (byte ∷ word) = (byte ∷ word) ∷ []
 
+-- the words of a text, the bytes between blanks; `word` is what was read of the first one
 unfoldable pub wordsFrom : (word : List ℕ) → List ℕ → List (List ℕ)
 wordsFrom word [] = ended word
 wordsFrom word (byte ∷ text) = cond (blank byte) (ended word ++ wordsFrom [] text) (wordsFrom (word ++ (byte ∷ [])) text)
 
+-- "any or none before the first and after the last"
 unfoldable pub words : List ℕ → List (List ℕ)
 words text = wordsFrom [] text
 
@@ -58,6 +60,7 @@ abbrev pub fitting32 : Whole → Whole
 fitting32 noNumber = noNumber
 fitting32 (whole z) = cond (within (negℤ (pos 2147483648)) (pos 2147483647) z) (whole z) noNumber
 
+-- the number that a word is
 unfoldable pub wholeOf : List ℕ → Whole
 wholeOf word = fitting32 (signed word)
 
@@ -66,11 +69,13 @@ pub data Numbers : Type 0 where
   noNumbers : Numbers
   numbers : List ℤ → Numbers
 
+-- a number before the others; one word that is none leaves none
 abbrev pub prepend : Whole → Numbers → Numbers
 prepend noNumber rest = noNumbers
 prepend (whole z) noNumbers = noNumbers
 prepend (whole z) (numbers zs) = numbers (z ∷ zs)
 
+-- "exactly the whole numbers called for": each word is one
 unfoldable pub numbersOf : List (List ℕ) → Numbers
 numbersOf [] = numbers []
 numbersOf (word ∷ rest) = prepend (wholeOf word) (numbersOf rest)
@@ -102,11 +107,13 @@ withCounts (whole (negsuc n)) (whole z) rest = unreadable
 withCounts (whole (pos n)) (whole (negsuc m)) rest = unreadable
 withCounts (whole (pos n)) (whole (pos m)) rest = afterCounts n m (countsRefusal n m) rest
 
+-- the input that some words are: n and m are the first two
 abbrev pub inputOf : List (List ℕ) → Input
 inputOf [] = unreadable
 inputOf (n ∷ []) = unreadable
 inputOf (n ∷ m ∷ rest) = withCounts (wholeOf n) (wholeOf m) rest
 
+-- "Program settle reads standard input: n and m, then bids, then capacity rows."
 unfoldable pub settleInput : List ℕ → Input
 settleInput text = inputOf (words text)
 
@@ -121,35 +128,44 @@ decimalTo (suc k) v = cond (ltb v 10) ((48 + v) ∷ []) (decimalTo k (v / 10) ++
 unfoldable pub decimal : ℕ → List ℕ
 decimal v = decimalTo 20 v
 
+-- with a minus if negative
 unfoldable pub decimalZ : ℤ → List ℕ
 decimalZ (pos v) = decimal v
 decimalZ (negsuc v) = 45 ∷ decimal (suc v)
 
+-- byte 32
 abbrev pub space : List ℕ
 space = 32 ∷ []
 
+-- byte 10
 abbrev pub newline : List ℕ
 newline = 10 ∷ []
 
--- "bid", "line", "price", "none", "welfare", "refused", "unreadable"
+-- `bid`
 abbrev pub bidWord : List ℕ
 bidWord = 98 ∷ 105 ∷ 100 ∷ []
 
+-- `line`
 abbrev pub lineWord : List ℕ
 lineWord = 108 ∷ 105 ∷ 110 ∷ 101 ∷ []
 
+-- `price`
 abbrev pub priceWord : List ℕ
 priceWord = 112 ∷ 114 ∷ 105 ∷ 99 ∷ 101 ∷ []
 
+-- `none`
 abbrev pub noneWord : List ℕ
 noneWord = 110 ∷ 111 ∷ 110 ∷ 101 ∷ []
 
+-- `welfare`
 abbrev pub welfareWord : List ℕ
 welfareWord = 119 ∷ 101 ∷ 108 ∷ 102 ∷ 97 ∷ 114 ∷ 101 ∷ []
 
+-- `refused`
 abbrev pub refusedWord : List ℕ
 refusedWord = 114 ∷ 101 ∷ 102 ∷ 117 ∷ 115 ∷ 101 ∷ 100 ∷ []
 
+-- `unreadable`
 abbrev pub unreadableWord : List ℕ
 unreadableWord = 117 ∷ 110 ∷ 114 ∷ 101 ∷ 97 ∷ 100 ∷ 97 ∷ 98 ∷ 108 ∷ 101 ∷ []
 
@@ -172,13 +188,15 @@ flowLine from to flow =
     (lineWord ++ (space ++ (decimal from ++ (space ++ (decimal to ++ (space ++ (decimalZ flow ++ newline)))))))
     []
 
--- "pool, price"
+-- a price, `none` if it is missing
 abbrev pub priceText : (price presence : ℤ) → List ℕ
 priceText price presence = cond (ltZ (pos 0) presence) (decimalZ price) noneWord
 
+-- "pool, price"
 unfoldable pub priceLine : (pool : ℕ) (price presence : ℤ) → List ℕ
 priceLine pool price presence = priceWord ++ (space ++ (decimal pool ++ (space ++ (priceText price presence ++ newline))))
 
+-- the last line
 unfoldable pub welfareLine : ℤ → List ℕ
 welfareLine w = welfareWord ++ (space ++ (decimalZ w ++ newline))
 
@@ -187,34 +205,41 @@ unfoldable pub linesTo : (k : ℕ) → (ℕ → List ℕ) → List ℕ
 linesTo zero line = []
 linesTo (suc k) line = linesTo k line ++ line k
 
--- the listing of opened results: n amounts, m × m flows, then price and presence of each pool
+-- one of the opened results: n amounts, m × m flows, then price and presence of each pool
 abbrev pub resultAt : List ℤ → ℕ → ℤ
 resultAt results i = getD results i (pos 0)
 
+-- the lines of all bids
 unfoldable pub bidLines : (n : ℕ) → List ℤ → List ℕ
 bidLines n results = linesTo n (λ i. bidLine (i + 1) (resultAt results i))
 
+-- the lines of all flows above 0, by rows
 unfoldable pub flowLines : (n m : ℕ) → List ℤ → List ℕ
 flowLines n m results = linesTo m (λ a. linesTo m (λ b. flowLine (a + 1) (b + 1) (resultAt results (n + (a * m + b)))))
 
+-- the lines of all pools
 unfoldable pub priceLines : (n m : ℕ) → List ℤ → List ℕ
 priceLines n m results =
     linesTo m (λ p. priceLine (p + 1) (resultAt results (n + m * m + 2 * p)) (resultAt results (n + m * m + 2 * p + 1)))
 
+-- the text printed for a cleared book, as for example 2
 unfoldable pub listing : (n m : ℕ) (results : List ℤ) (w : ℤ) → List ℕ
 listing n m results w = bidLines n results ++ (flowLines n m results ++ (priceLines n m results ++ welfareLine w))
 
 -- ---- What settle prints for a text
 
+-- of a book: the listing of its cleared results, or its refusal
 abbrev pub bookText : Plan → Book → Refusal → List ℕ
 bookText plan B none =
     listing (B .n) (B .m) (openedResults (B .n) (B .m) (planRun plan B)) (clearWelfare plan B cellCount)
 bookText plan B (refuse number place) = refusedText number place
 
+-- of an input
 unfoldable pub inputText : Plan → Input → List ℕ
 inputText plan unreadable = unreadableText
 inputText plan (refused r) = refusedText (numberOf r) (placeOf r)
 inputText plan (readable B) = bookText plan B (sealRefusal B cellCount)
 
+-- what settle "prints, in full" for the text that it reads
 unfoldable pub settleText : Plan → List ℕ → List ℕ
 settleText plan text = inputText plan (settleInput text)

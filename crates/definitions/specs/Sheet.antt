@@ -16,16 +16,19 @@ sealedSheet B =
 abbrev pub firstResult : (n m : ℕ) → ℕ
 firstResult n m = bidNumbers * n + m * m
 
--- "n accepted amounts, m × m flows by rows, then for each pool two cells, its price and a presence cell"
+-- "n accepted amounts"
 abbrev pub amountCell : (n m i : ℕ) → ℕ
 amountCell n m i = firstResult n m + i
 
+-- "m × m flows by rows"
 abbrev pub flowCell : (n m a b : ℕ) → ℕ
 flowCell n m a b = firstResult n m + n + (a * m + b)
 
+-- "then for each pool two cells, its price"
 abbrev pub priceCell : (n m p : ℕ) → ℕ
 priceCell n m p = firstResult n m + n + m * m + 2 * p
 
+-- "and a presence cell"
 abbrev pub presenceCell : (n m p : ℕ) → ℕ
 presenceCell n m p = priceCell n m p + 1
 

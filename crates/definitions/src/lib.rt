@@ -59,7 +59,7 @@ pub enum Verdict {
     Cell(usize),
 }
 
-// The number of an order's kind.
+// The number of an order's kind: "An order begins with its kind, 0 to 5".
 pub fn kind(o: Order) -> u32
     ensures { λ r. ⌜ r ≡ kindOf o ⌝ }
 {
@@ -121,6 +121,7 @@ pub fn place(v: Verdict) -> usize
     }
 }
 
+// Whether it is no refusal: "sealing accepts it when it gives no refusal".
 pub fn is_accepted(v: Verdict) -> bool
     ensures { λ r. ⌜ r ≡ isNone (refusalOf v) ⌝ }
 {
