@@ -93,6 +93,15 @@ pub read-written : (g v : ℕ) (rest : List ℕ) → v < groupsLimit (suc g) →
 unfolding groupsLimit
 read-written g v rest h = one-group g true v rest refl (λ b. later-read-written g (v / 128) rest (omega arith) (omega arith))
 
+-- a number too big for g groups leaves no last group
+pub too-big : (g : ℕ) (first : Bool) (v : ℕ) (rest : List ℕ) → groupsLimit g ≤ v → readGroups g first (groups g v ++ rest) ≡ bad
+unfolding groups groupsLimit readGroups
+too-big zero first v rest h = refl
+too-big (suc g) first v rest h =
+    let l : 128 ≤ v = omega (arith, limit-positive g) in
+    let high : ltb (v % 128 + 128) 128 ≡ false = le-ltb (v % 128 + 128) 128 (omega arith) in
+    rw (le-ltb v 128 l, high, too-big g false (v / 128) rest (omega arith)) refl
+
 -- ---- only the shortest form is read
 
 -- what is known of a number v that was read in n bytes at the head of xs

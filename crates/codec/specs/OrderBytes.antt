@@ -7,7 +7,7 @@ use native.Mathlib.Omega.{arith}
 use lib.Dec.{ltb}
 use lib.ListN.{length, drop, length-append, length-drop}
 use lib.Seq.{drop-drop, drop-append-seam, getD-drop}
-use borrow.Author.Tests.{lt-ltb, ne-eqb}
+use borrow.Author.Tests.{lt-ltb, le-ltb, ne-eqb}
 use Rattle.definitions.specs.declared.Order.{Order}
 use Rattle.definitions.specs.declared.Order.the-variants.{Constant, Sum, Difference, Product, Less, Equal}
 use Rattle.definitions.specs.Limits.{cellCount, modulus}
@@ -114,6 +114,15 @@ module _ (s : List ℕ) where
   below-there limit refusal at v rest l h e =
       let n = number-there at v rest (omega arith) e in
       record { read = ap (below limit refusal) (n .read) ∙ simp (lt-ltb v limit h); then = n .then }
+
+  -- "2^32 or more": such a number's bytes are refused, never read as another number
+  pub number-too-big : (at v : ℕ) (rest : List ℕ) → numberLimit ≤ v → drop at s ≡ numberBytes v ++ rest → numberAt s at ≡ fault 11
+  unfolding numberAt numberBytes groupsLimit
+  number-too-big at v rest h e = ap (λ (l : List ℕ). placed at (readGroups 5 true l)) e ∙ go (lt? v (groupsLimit 5))
+    where
+      go : {t : Bool} → Lt? v (groupsLimit 5) t → placed at (readGroups 5 true (numberBytes v ++ rest)) ≡ fault 11
+      go (less l) = ap (placed at) (groups.read-written 4 v rest l) ∙ simp (le-ltb v numberLimit h)
+      go (more l) = ap (placed at) (groups.too-big 5 true v rest l)
 
   kind-there : (at v : ℕ) (rest : List ℕ) → v < 6 → drop at s ≡ numberBytes v ++ rest → There (kindAt s at) at v rest
   unfolding kindAt

@@ -1,6 +1,6 @@
 -- A list of orders and its bytes: orders are read back from their bytes (orders-read-back), and bytes that are accepted are those of the orders read (accepted-bytes-shortest).
 use Prim.Native.Nat.{ℕ, zero, suc, _+_, _-_, _<_, _≤_}
-use mathlib.Core.Path.{_≡_, refl, sym, ap, _∙_}
+use mathlib.Core.Path.{_≡_, refl, sym, ap, _∙_, subst}
 use mathlib.Core.Bool.{Bool, cond}
 use mathlib.Core.List.{List, [], _∷_, _++_}
 use native.Mathlib.Omega.{arith}
@@ -100,6 +100,10 @@ parsed-well-formed s = from-well-formed s (length s) 0
 pub accepted-bytes-shortest : (s : List ℕ) → Bytes s → parse s .refusal ≡ none → (s ≡ ordersBytes (parse s .orders)) × AllWellFormed (parse s .orders)
 unfolding parse
 accepted-bytes-shortest s b e = (from-bytes s b (length s) 0 (omega arith) e, from-well-formed s (length s) 0)
+
+-- orders are read back from their bytes only if each is one of the machine's
+pub read-back-only : (os : List Order) → parse (ordersBytes os) .orders ≡ os → AllWellFormed os
+read-back-only os e = subst AllWellFormed e (parsed-well-formed (ordersBytes os))
 
 -- ---- reading on from an offset, turn by turn
 
