@@ -1,6 +1,7 @@
--- A list of orders and its bytes: orders are read back from their bytes (orders-read-back), and bytes that are accepted are those of the orders read (accepted-bytes-shortest).
+-- A list of orders and its bytes: orders are read back from their bytes (orders-read-back), bytes that are accepted are those of the orders read (accepted-bytes-shortest),
+-- and orders whose bytes are accepted are the machine's (accepted-only).
 use Prim.Native.Nat.{ℕ, zero, suc, _+_, _-_, _<_, _≤_}
-use mathlib.Core.Path.{_≡_, refl, sym, ap, _∙_, subst}
+use mathlib.Core.Path.{_≡_, refl, sym, ap, _∙_}
 use mathlib.Core.Bool.{Bool, cond}
 use mathlib.Core.List.{List, [], _∷_, _++_}
 use native.Mathlib.Omega.{arith}
@@ -14,7 +15,7 @@ use Rattle.definitions.specs.Bytes.{orderBytes, ordersBytes, Read, fault, found
 use Rattle.laws.specs.Tests.{Lt?, less, more, lt?}
 use Rattle.laws.specs.Refusal.{not-refused}
 use Rattle.codec.specs.Groups.{Bytes}
-use Rattle.codec.specs.OrderBytes.{bytes-append, order-bytes, at-least-three, read-written-at, order-read, only-shortest}
+use Rattle.codec.specs.OrderBytes.{bytes-append, order-bytes, at-least-three, read-written-at, order-read, only-shortest, accepted-written}
 
 pub orders-bytes : (os : List Order) → Bytes (ordersBytes os)
 unfolding ordersBytes
@@ -101,9 +102,34 @@ pub accepted-bytes-shortest : (s : List ℕ) → Bytes s → parse s .refusal �
 unfolding parse
 accepted-bytes-shortest s b e = (from-bytes s b (length s) 0 (omega arith) e, from-well-formed s (length s) 0)
 
--- orders are read back from their bytes only if each is one of the machine's
-pub read-back-only : (os : List Order) → parse (ordersBytes os) .orders ≡ os → AllWellFormed os
-read-back-only os e = subst AllWellFormed e (parsed-well-formed (ordersBytes os))
+-- the bytes of some orders are accepted only if each is one of the machine's, and are then read back as those orders
+module _ (s : List ℕ) where
+  from-written : (k at : ℕ) (os : List Order) → length (ordersBytes os) ≤ k → drop at s ≡ ordersBytes os → parseFrom s k at .refusal ≡ none → AllWellFormed os
+  unfolding ordersBytes
+  from-written k at [] h e q = tt
+  from-written zero at (o ∷ os) h e q = absurd (omega (arith, at-least-three o, length-append (orderBytes o) (ordersBytes os)))
+  from-written (suc k) at (o ∷ os) h e q = go (orderAt s at) refl (λ n l d f. from-written k n os l d f)
+    where
+      size : length (orderBytes o ++ ordersBytes os) ≡ length (orderBytes o) + length (ordersBytes os)
+      size = length-append (orderBytes o) (ordersBytes os)
+
+      inside : at < length s
+      inside = omega (arith, at-least-three o, size, length-drop at s, ap length e)
+
+      go : (r : Read Order) → orderAt s at ≡ r → ((n : ℕ) → length (ordersBytes os) ≤ k → drop n s ≡ ordersBytes os → parseFrom s k n .refusal ≡ none → AllWellFormed os) → AllWellFormed (o ∷ os)
+      go (fault number) u others = not-refused (sym (ap (λ (p : Parsed). p .refusal) (parse-refused s k at inside number u)) ∙ q)
+      go (found read after) u others =
+          let w = accepted-written s at o (ordersBytes os) e u in
+          let next : ℕ = at + length (orderBytes o) in
+          let later : drop next s ≡ ordersBytes os = sym (drop-drop (length (orderBytes o)) at s) ∙ ap (drop (length (orderBytes o))) e ∙ drop-append-seam (orderBytes o) (ordersBytes os) in
+          let rest : parseFrom s k next .refusal ≡ none = sym (ap (λ (p : Parsed). p .refusal) (parse-order s k at inside o next (read-written-at s at o (ordersBytes os) w e))) ∙ q in
+          (w, others next (omega (arith, at-least-three o, size)) later rest)
+
+pub accepted-only : (os : List Order) → parse (ordersBytes os) .refusal ≡ none → AllWellFormed os × (parse (ordersBytes os) .orders ≡ os)
+unfolding parse
+accepted-only os q =
+    let w = from-written (ordersBytes os) (length (ordersBytes os)) 0 os (omega arith) refl q in
+    (w, ap (λ (p : Parsed). p .orders) (orders-read-back os w))
 
 -- ---- reading on from an offset, turn by turn
 
