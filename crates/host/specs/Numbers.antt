@@ -3,7 +3,7 @@ use Prim.Native.Nat.{ℕ, zero, suc, _+_, _*_, _/_, _^_, _≤_, _<_}
 use mathlib.Core.Path.{_≡_, refl, ap}
 use mathlib.Core.List.{List, [], _∷_}
 use native.Mathlib.Omega.{arith}
-use native.Mathlib.Nat.{mul-le-mul}
+use native.Mathlib.Nat.{mul-le-mul, mul-le-mul-left, pow-le-pow-left}
 use lib.ListN.{length}
 use Rattle.definitions.specs.Limits.{bidLimit, poolLimit}
 use Rattle.definitions.specs.Answers.{none}
@@ -36,12 +36,7 @@ read-back (suc k) v h = omega (arith, read-back k (v / 256) (omega arith))
 
 -- the plan's length is far below what 8 bytes hold
 power-small : (m : ℕ) → m ≤ poolLimit → 40 * (m + 1) ^ 6 ≤ 625000
-power-small zero h = omega arith
-power-small (suc zero) h = omega arith
-power-small (suc (suc zero)) h = omega arith
-power-small (suc (suc (suc zero))) h = omega arith
-power-small (suc (suc (suc (suc zero)))) h = omega arith
-power-small (suc (suc (suc (suc (suc m))))) h = absurd (let x : ⊥ = omega arith in x)
+power-small m h = mul-le-mul-left 40 (pow-le-pow-left {n = m + 1} {m = 5} (omega arith) 6)
 
 limit-small : (n c : ℕ) → n ≤ bidLimit → c ≤ 625000 → n * (100 * n + c) ≤ 40409600
 limit-small n c h k =
