@@ -14,11 +14,11 @@ def expected(data, first=b""):
     sheet = orders.run(orders.orders(first), [0] * orders.CELLS)
     try:
         found = orders.orders(data)
-        answer = f"orders {len(found)}\n"
+        first_line = f"orders {len(found)}\n"
     except orders.Refused as refusal:
         found = []
-        answer = "refused %d %d\n" % refusal.args
-    return answer + "".join(f"cell {c} {v}\n" for c, v in enumerate(orders.run(found, sheet)) if v)
+        first_line = "refused %d %d\n" % refusal.args
+    return first_line + "".join(f"cell {c} {v}\n" for c, v in enumerate(orders.run(found, sheet)) if v)
 
 
 def order(draw):
@@ -62,22 +62,31 @@ def kind(output):
     return "accepted" if words[0] == "orders" else words[1], words[-1] == "0"
 
 
+def answer(replay, data):
+    return subprocess.run([replay], input=data, stdout=subprocess.PIPE, check=True).stdout.decode("ascii")
+
+
 def main():
     replay, dump = sys.argv[1:3]
     count = int(sys.argv[3]) if len(sys.argv) > 3 else 500
     draw = random.Random(int(sys.argv[4]) if len(sys.argv) > 4 else 1)
-    plans = [subprocess.run([dump, *counts], stdout=subprocess.PIPE, check=True).stdout for counts in ["01", "22", "53", "34"]]
+    plan = lambda n, m: subprocess.run([dump, n, m], stdout=subprocess.PIPE, check=True).stdout
+    longest = plan("64", "4")
+    for data in [longest, longest[:-1]]:
+        assert answer(replay, data) == expected(data), "the longest plan"
+    assert answer(replay, longest + longest) == "not read whole\n", "more than replay's room"
+    plans = [plan(*counts) for counts in ["01", "22", "53", "34"]]
     seen = collections.Counter()
     for k in range(count):
         own = k % 5 == 0
         data = draw.choice(plans) if own else b"".join(orders.encoded(order(draw)) for _ in range(draw.randint(0, 6)))
         if k % 4:
             data = damaged(draw, data)
-        output = subprocess.run([replay], input=data, stdout=subprocess.PIPE, check=True).stdout.decode("ascii")
+        output = answer(replay, data)
         assert output == expected(data), (data.hex(), output, expected(data))
         seen[kind(output)] += 1
         seen["damaged plans of the unit"] += own and k % 4 > 0
-    missed = [(answer, zero) for answer in ["accepted", "9", "10", "11", "12"] for zero in [True, False] if not seen[answer, zero]]
+    missed = [(name, zero) for name in ["accepted", "9", "10", "11", "12"] for zero in [True, False] if not seen[name, zero]]
     assert not missed, missed
     print(f"{count} plans, whole, cut and damaged, {seen['damaged plans of the unit']} of them damaged plans of the unit: the runner answers as the reader and "
           "the machine written apart, with every refusal at place 0 and later")

@@ -1,5 +1,5 @@
 // Runs the plan bytes of standard input on an empty sheet, and prints the count of orders and every cell that is not 0, or the refusal.
-// Bytes that fill the room may be a part of a longer input: none of them is run, and `too long` is printed.
+// A part of a plan is never run: where more is left to read than the room takes, or a read fails, `not read whole` is printed.
 use definitions::Limits;
 use definitions::is_accepted;
 use definitions::number;
@@ -40,8 +40,9 @@ fn print_cells(sheet: &[u32; Limits::CELLS]) {
 fn main() {
     let mut bytes = [0u8; Replay::ROOM];
     let size = io::read_full(STDIN_FILENO, &mut bytes);
-    if size == Replay::ROOM {
-        io::write_all(STDOUT_FILENO, b"too long\n");
+    let mut more = io::buffer();
+    if libc::read(STDIN_FILENO, &mut more) != 0 {
+        io::write_all(STDOUT_FILENO, b"not read whole\n");
         return;
     }
     let mut sheet = [0u32; Limits::CELLS];
