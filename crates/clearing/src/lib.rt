@@ -14,12 +14,14 @@ ghost use Rattle.definitions.specs.Calls.{countsRefusal, sealRefusal};
 ghost use Rattle.definitions.specs.Outcome.{clearSheet, clearCount, clearWelfare};
 ghost use Rattle.plan.specs.Plan.{plan};
 ghost use Rattle.clearing.specs.Amounts.{AmountsWithin};
+use crate::welfare::welfare;
 use definitions::Limits;
 use definitions::Verdict;
 use definitions::is_accepted;
 use machine::step;
 use sealing::seal;
-use welfare::welfare;
+
+mod welfare;
 
 // What clearing gives: count and welfare are 0 on a refusal.
 pub struct Cleared {

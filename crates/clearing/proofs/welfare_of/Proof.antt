@@ -12,7 +12,7 @@ use Rattle.clearing.proofs.welfare_of.Statement.{statement}
 use Rattle.clearing.proofs.welfare_of.Tie as tie
 use Rattle.clearing.proofs.welfare_of.Reads as reads
 use Rattle.clearing.proofs.welfare_of.Lts as lts
-use Rattle.welfare.proofs.welfare.Reads as welfare-reads
+use Rattle.clearing.proofs.welfare.welfare.Reads as welfare-reads
 
 -- the amounts end on the sheet
 end : (c : tie.After-shared-slice-known) → firstResult (c .before .args .n) (c .before .args .m) + c .before .args .n ≤ cellCount

@@ -10,8 +10,8 @@ use borrow.Author.Needs.{needs}
 use Rattle.definitions.specs.Limits.{priceLimit, quantityLimit}
 use Rattle.laws.specs.SignedTests.{right}
 use Rattle.laws.specs.IntegerSize.{fits-size, size-product, size-neg}
-use Rattle.welfare.proofs.signed_value.Statement.{statement}
-use Rattle.welfare.proofs.signed_value.Tie as tie
+use Rattle.clearing.proofs.welfare.signed_value.Statement.{statement}
+use Rattle.clearing.proofs.welfare.signed_value.Tie as tie
 
 -- price × accepted
 abbrev value : tie.Start → ℤ

@@ -7,7 +7,7 @@ ghost use lib.IntN.{ℤ, pos, natAbs};
 ghost use Rattle.definitions.specs.Limits.{bidLimit, priceLimit, quantityLimit, bidNumbers};
 ghost use Rattle.definitions.specs.Book.{book};
 ghost use Rattle.definitions.specs.Clearing as clearing;
-ghost use Rattle.welfare.specs.Welfare.{signedValue};
+ghost use Rattle.clearing.specs.Welfare.{signedValue};
 use definitions::Limits;
 
 // Price × accepted of one bid: added for a purchase, taken off for a sale.

@@ -15,10 +15,10 @@ use Rattle.definitions.specs.Arithmetic.{sumZ}
 use Rattle.definitions.specs.Book.{Book, book}
 use Rattle.laws.specs.SignedTests.{back}
 use Rattle.laws.specs.IntegerSize.{fits-size}
-use Rattle.welfare.specs.IntegerSum.{sum-none, sum-next}
-use Rattle.welfare.specs.Welfare.{signedValue, bidValue, welfare-by-bid, part-size}
-use Rattle.welfare.proofs.welfare.Statement.{statement}
-use Rattle.welfare.proofs.welfare.Tie as tie
+use Rattle.clearing.specs.IntegerSum.{sum-none, sum-next}
+use Rattle.clearing.specs.Welfare.{signedValue, bidValue, welfare-by-bid, part-size}
+use Rattle.clearing.proofs.welfare.welfare.Statement.{statement}
+use Rattle.clearing.proofs.welfare.welfare.Tie as tie
 
 -- a book of these bids, and what bid i adds
 abbrev listed : List ℤ → List ℕ → Book

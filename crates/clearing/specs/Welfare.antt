@@ -14,7 +14,7 @@ use Rattle.definitions.specs.Book.{Book, price, quantity, purchase, sale}
 use Rattle.definitions.specs.Clearing.{value, welfare}
 use Rattle.laws.specs.IntegerSize.{fits-size, size-neg, size-product}
 use Rattle.laws.specs.Sum.{sumZ-ext}
-use Rattle.welfare.specs.IntegerSum.{sum-difference, sum-size}
+use Rattle.clearing.specs.IntegerSum.{sum-difference, sum-size}
 
 -- price × accepted of one bid: as it is for a purchase, negated for a sale
 abbrev pub signedValue : (price quantity : ℤ) (accepted : ℕ) → ℤ

@@ -1,3 +1,0 @@
--- Welfare as one sum, and its size.
-pub mod IntegerSum
-pub mod Welfare
