@@ -19,6 +19,8 @@ use definitions::Limits;
 use definitions::Verdict;
 use definitions::is_accepted;
 use machine::step;
+use position::Asked;
+use position::Position;
 use sealing::seal;
 
 mod welfare;
@@ -30,23 +32,21 @@ pub struct Cleared {
     pub welfare: i64,
 }
 
-// Runs each order of the plan, from its first position to its end, and counts them. The layout is made once for all of them.
+// Asks the plan from its first position to its end and runs each order; how many they are is the last position.
 fn run_plan(n: usize, m: usize, sheet: &mut [u32]) -> usize
     requires { ⌜ countsRefusal n m ≡ none ⌝ }
     requires { ⌜ IsSheet (now sheet) ⌝ }
     ensures count { λ r. ⌜ r ≡ length (plan n m) ⌝ }
     ensures cells { λ _. ⌜ now (sheet .exit) ≡ runOf (plan n m) (now (sheet .entry)) ⌝ }
 {
-    let starts = layout::starts_of(n, m);
-    let columns = layout::columns_of(m);
-    let total = layout::plan_length(n, m);
-    let mut at = 0;
-    while at < total {
-        let order = orders::order_in(n, m, &starts, &columns, at);
+    let mut position = Position::first(n, m);
+    loop {
+        let Asked::Order(order, later) = position.ask() else {
+            return position.at;
+        };
         step(sheet, order);
-        at += 1;
+        position = later;
     }
-    at
 }
 
 // The welfare of the accepted amounts that a sheet holds.

@@ -9,3 +9,4 @@ pub mod Refusal
 pub mod Search
 pub mod Sizes
 pub mod AcceptedBook
+pub mod Run

@@ -1,7 +1,7 @@
 -- The layout as the code's two tables have it: where each family of cells begins, and how many columns it has.
 use mathlib.Core.Path.{_≡_, refl, sym, ap, _∙_}
-use mathlib.Core.List.{List}
-use Prim.Native.Nat.{ℕ, suc, _+_, _*_, _^_, _≤_, _<_}
+use mathlib.Core.List.{List, [], _∷_}
+use Prim.Native.Nat.{ℕ, zero, suc, _+_, _*_, _^_, _≤_, _<_}
 use native.Mathlib.Omega.{arith}
 use native.Mathlib.Nat.{eq-or-lt-of-le}
 use native.Mathlib.Numerals.{add-one}
@@ -9,6 +9,8 @@ use mathlib.Core.Logic.{_⊎_, inl, inr}
 use lib.ListN.{length, getD, set}
 use lib.Seq.{getD-set-same, getD-set-other}
 use Rattle.definitions.specs.Arithmetic.{sumTo}
+use Rattle.definitions.specs.Answers.{Refusal, none, unless}
+use Rattle.definitions.specs.Calls.{countsRefusal}
 use Rattle.definitions.specs.Limits.{bidLimit, poolLimit, cellCount}
 use Rattle.plan.specs.Names.{familyCount, rowTable, columnTable, rowsOf, columnsOf}
 use Rattle.plan.specs.Layout.{base-grows}
@@ -29,6 +31,23 @@ StartsTo n m k starts = (t : ℕ) → t < k → getD starts t 0 ≡ from n m t
 -- starts says where every family begins
 abbrev pub AreStarts : (n m : ℕ) → List ℕ → Type 0
 AreStarts n m starts = StartsTo n m familyCount starts
+
+-- a table of k zeros
+abbrev zeros : ℕ → List ℕ
+zeros zero = []
+zeros (suc k) = 0 ∷ zeros k
+
+pub zero-entry : (k t : ℕ) → getD (zeros k) t 0 ≡ 0
+zero-entry zero t = refl
+zero-entry (suc k) zero = refl
+zero-entry (suc k) (suc t) = zero-entry k t
+
+-- the same for accepted counts; for refused ones every entry is 0
+abbrev pub StartsOrNone : (n m : ℕ) → List ℕ → Type 0
+StartsOrNone n m starts = (t : ℕ) → t < familyCount → getD starts t 0 ≡ unless (countsRefusal n m) (from n m t) 0
+
+pub starts-accepted : (n m : ℕ) (starts : List ℕ) → countsRefusal n m ≡ none → StartsOrNone n m starts → AreStarts n m starts
+starts-accepted n m starts e h t l = h t l ∙ ap (λ (r : Refusal). unless r (from n m t) 0) e
 
 -- the two tables are those of the plan for n and m
 pub record IsLayout (n m : ℕ) (starts columns : List ℕ) : Type 0 where

@@ -8,7 +8,7 @@ ghost use Rattle.definitions.specs.Calls.{countsRefusal};
 ghost use Rattle.definitions.specs.Plan.{total};
 ghost use Rattle.plan.specs.Names.{rowTable, columnTable};
 ghost use Rattle.plan.specs.Plan.{plan};
-ghost use Rattle.layout.specs.Tables.{AreStarts};
+ghost use Rattle.layout.specs.Tables.{AreStarts, StartsOrNone};
 use definitions::Limits;
 use definitions::is_accepted;
 use judging::judge_counts;
@@ -193,8 +193,8 @@ fn rows_of(n: usize, m: usize) -> [usize; Family::COUNT]
     ]
 }
 
-// Where each family begins on the sheet: behind the cells of the families before it.
-pub fn starts_of(n: usize, m: usize) -> [usize; Family::COUNT]
+// Where each family begins on the sheet, for accepted counts: behind the cells of the families before it.
+fn starts_within(n: usize, m: usize) -> [usize; Family::COUNT]
     requires { ⌜ countsRefusal n m ≡ none ⌝ }
     ensures { λ r. ⌜ AreStarts n m r ⌝ }
 {
@@ -209,6 +209,16 @@ pub fn starts_of(n: usize, m: usize) -> [usize; Family::COUNT]
         t += 1;
     }
     starts
+}
+
+// Where each family begins; 0 for refused counts.
+pub fn starts_of(n: usize, m: usize) -> [usize; Family::COUNT]
+    ensures { λ r. ⌜ StartsOrNone n m r ⌝ }
+{
+    if !is_accepted(judge_counts(n, m)) {
+        return [0; Family::COUNT];
+    }
+    starts_within(n, m)
 }
 
 // How many orders the plan has, for counts within their limits.

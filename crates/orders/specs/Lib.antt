@@ -1,3 +1,4 @@
--- What the code of the orders cites: digits, and the plan's tree walked by position.
+-- What the code of the orders cites: digits, the plan's tree walked by position, and what it answers at a position.
 pub mod Digits
 pub mod Walk
+pub mod Entry

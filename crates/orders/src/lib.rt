@@ -8,11 +8,15 @@ ghost use Rattle.definitions.specs.Answers.{none};
 ghost use Rattle.definitions.specs.Calls.{countsRefusal};
 ghost use Rattle.plan.specs.Plan.{plan};
 ghost use Rattle.layout.specs.Tables.{IsLayout};
+ghost use Rattle.orders.specs.Entry.{planEntry};
 use crate::cells::numbered_order;
 use crate::work::work_length;
 use crate::work::work_order;
 use definitions::Order;
 use layout::Family;
+use layout::columns_of;
+use layout::plan_length;
+use layout::starts_of;
 
 mod blocks;
 mod cells;
@@ -22,7 +26,7 @@ mod sets;
 mod work;
 
 // The plan's order at a position before its end, by a layout made before: the work's, then 0 to each scratch cell that has a name.
-pub fn order_in(
+fn order_in(
     n: usize,
     m: usize,
     starts: &[usize; Family::COUNT],
@@ -43,4 +47,22 @@ pub fn order_in(
         d: starts[Family::TEMPORARIES] + (at - work),
         k: 0,
     }
+}
+
+// What the plan has at a position.
+pub enum Entry {
+    Order(Order),
+    Nothing,
+}
+
+// The plan's order at a position; nothing for refused counts and from the end on.
+pub fn order_at(n: usize, m: usize, at: usize) -> Entry
+    ensures { λ r. ⌜ r ≡ planEntry plan n m at ⌝ }
+{
+    if at < plan_length(n, m) {
+        let starts = starts_of(n, m);
+        let columns = columns_of(m);
+        return Entry::Order(order_in(n, m, &starts, &columns, at));
+    }
+    Entry::Nothing
 }

@@ -22,7 +22,8 @@ use Rattle.plan.specs.Orders.{OrderOn, constant, operate, target, orderO
 use Rattle.plan.specs.Loops.{loop, listed}
 use Rattle.plan.specs.Names.{amounts, flows, prices, temporaries, familyCount, rowsOf, columnsOf}
 use Rattle.plan.specs.Layout.{address-below, address-apart}
-use Rattle.plan.specs.Simulation.{run-on, run-length, run-other, AllNamed, run-agrees}
+use Rattle.laws.specs.Run.{run-append}
+use Rattle.plan.specs.Simulation.{run-length, run-other, AllNamed, run-agrees}
 use Rattle.plan.specs.Tree.{flat, all-imply, every-flat}
 use Rattle.plan.specs.Values.{tables, acceptedAmount, lineFlow, priceCells}
 use Rattle.plan.specs.Bounds.{Theory}
@@ -43,7 +44,7 @@ pub record Cleared (B : Book) (r : List ℕ) : Type 0 where
   pub scratch-zero : (c : ℕ) → firstScratch (B .n) (B .m) ≤ c → cell r c ≡ 0
 
 run-parts : (x y : List (OrderOn ℕ)) (s : List ℕ) → runOf (map orderOf (x ++ y)) s ≡ runOf (map orderOf y) (runOf (map orderOf x) s)
-run-parts x y s = ap (λ (l : List Order). runOf l s) (map-append orderOf x y) ∙ run-on (map orderOf x) (map orderOf y) s
+run-parts x y s = ap (λ (l : List Order). runOf l s) (map-append orderOf x y) ∙ run-append (map orderOf x) (map orderOf y) s
 
 -- ---- the last loop: 0 in the first k scratch cells
 

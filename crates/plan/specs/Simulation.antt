@@ -2,23 +2,17 @@
 use mathlib.Core.Path.{_≡_, refl, sym, ap, _∙_}
 use mathlib.Core.Logic.{_≢_}
 use mathlib.Core.Bool.{Bool, true, false, cond, true≢false}
-use mathlib.Core.List.{List, [], _∷_, _++_, map}
+use mathlib.Core.List.{List, [], _∷_, map}
 use Prim.Native.Nat.{ℕ, _≤_, _<_}
 use native.Mathlib.Omega.{arith}
 use lib.ListN.{length, set, length-set}
 use lib.Seq.{getD-set-same, getD-set-other}
-use Rattle.definitions.specs.declared.Order.{Order}
 use Rattle.definitions.specs.Machine.{cell, stepOf, runOf}
 use Rattle.plan.specs.Orders.{OrderOn, constant, operate, target, outcome, result, orderOf, step-is, renamed, Name, same, State, update, step, run}
 use Rattle.plan.specs.Loops.{same-self, same-equal}
 use Rattle.plan.specs.Tree.{All}
 
 -- ---- the run of a list of the unit's orders
-
-pub run-on : (x y : List Order) (s : List ℕ) → runOf (x ++ y) s ≡ runOf y (runOf x s)
-unfolding runOf
-run-on [] y s = refl
-run-on (o ∷ x) y s = run-on x y (stepOf s o)
 
 pub run-length : (os : List (OrderOn ℕ)) (s : List ℕ) → length (runOf (map orderOf os) s) ≡ length s
 unfolding runOf

@@ -1,2 +1,3 @@
--- What the proof of asking at a position cites.
+-- What the proof of asking at a position cites, and what an answer without an order says.
 pub mod Answers
+pub mod Ends

@@ -9,6 +9,7 @@ use definitions::Order;
 use definitions::Verdict;
 use definitions::is_accepted;
 use judging::judge_counts;
+use orders::Entry;
 
 // A position in the plan for n bids and m pools: how many orders come before it.
 pub struct Position {
@@ -48,25 +49,24 @@ impl Position {
         Verdict::Accepted
     }
 
-    // An order before the total, the end at the total; any other position is refused.
+    // Where there is no order, judging says whether the plan has ended or why the position is refused.
     pub fn ask(self) -> Asked
         ensures answer { λ r. ⌜ answerOf r ≡ asked plan (self .n) (self .m) (self .at) ⌝ }
         ensures same { λ r. ⌜ SamePlan (self .n) (self .m) r ⌝ }
     {
-        let verdict = self.judge();
-        if !is_accepted(verdict) {
-            return Asked::Refused(verdict);
-        }
         let n = self.n;
         let m = self.m;
         let at = self.at;
-        if at < layout::plan_length(n, m) {
-            let starts = layout::starts_of(n, m);
-            let columns = layout::columns_of(m);
-            let order = orders::order_in(n, m, &starts, &columns, at);
-            return Asked::Order(order, Position { n, m, at: at + 1 });
+        match orders::order_at(n, m, at) {
+            Entry::Order(order) => Asked::Order(order, Position { n, m, at: at + 1 }),
+            Entry::Nothing => {
+                let verdict = self.judge();
+                if !is_accepted(verdict) {
+                    return Asked::Refused(verdict);
+                }
+                Asked::Ended
+            }
         }
-        Asked::Ended
     }
 }
 

@@ -1,105 +1,38 @@
--- `starts_of` meets its contract: after each turn the entries so far are where their families begin, and the next family begins at `start`.
-use mathlib.Core.Path.{_≡_, refl, _∙_}
-use Prim.Native.Nat.{_+_, _*_, _-_, _≤_, _<_}
-use lib.ListN.{length, getD}
-use lib.ListN.{length-set}
-use native.Mathlib.Omega.{arith}
+-- `starts_of` meets its contract: the counts are judged first.
+use mathlib.Core.Path.{_≡_, sym, ap, _∙_}
 use borrow.Author.Needs.{needs}
+use Rattle.definitions.specs.Answers.{Refusal, none, unless}
+use Rattle.definitions.specs.Calls.{countsRefusal}
+use Rattle.laws.specs.Refusal.{unless-refused}
+use Rattle.laws.specs.Search.{turned-away, let-through}
 use Rattle.plan.specs.Names.{familyCount}
 use Rattle.plan.specs.Plan.{from}
-use Rattle.layout.specs.Tables.{StartsTo, first-start, one-more-start, next-start, next-on-sheet}
-use Rattle.laws.specs.Sizes.{counted}
-use Rattle.definitions.specs.Limits.{cellCount}
+use Rattle.layout.specs.Tables.{zero-entry}
 use Rattle.layout.proofs.starts_of.Statement.{statement}
 use Rattle.layout.proofs.starts_of.Tie as tie
 
-abbrev Inv-loop : tie.InvT-loop
-Inv-loop n m rows columns starts₀ start₀ t₀ starts start t = StartsTo n m t starts × (start ≡ from n m t) × (t ≤ familyCount) × (length starts ≡ familyCount)
+judge-counts-requires : tie.Need-judge-counts-requires
+judge-counts-requires c κs = search needs
 
-abbrev μ-loop : tie.MeasureT-loop
-μ-loop n m rows columns starts₀ start₀ t₀ starts start t = familyCount - t
+is-accepted-requires : tie.Need-is-accepted-requires
+is-accepted-requires c κs = search needs
 
-rows-of-requires : tie.Need-rows-of-requires Inv-loop μ-loop
-rows-of-requires c κs = counted (c .args .n) (c .args .m) (c .pre) .pools .most
+returns : tie.Need-returns
+returns c t l =
+    let a = c .before .before .before .args in
+    let refused = turned-away (c .before .before .judge-counts .ensures) (c .before .is-accepted .ensures) (c .if1 .taken) in
+    zero-entry familyCount t ∙ sym (unless-refused (countsRefusal (a .n) (a .m)) (from (a .n) (a .m) t) 0 refused)
 
-columns-of-requires : tie.Need-columns-of-requires Inv-loop μ-loop
-columns-of-requires c κs = search needs
+passed : (c : tie.Else1) → let a = c .before .before .before .args in countsRefusal (a .n) (a .m) ≡ none
+passed c = let-through (c .before .before .judge-counts .ensures) (c .before .is-accepted .ensures) (c .if1 .left)
 
-loop-holds : tie.Need-loop-holds Inv-loop μ-loop
-loop-holds c = let a = c .before .before .args in (λ t h. absurd (omega arith), first-start (a .n) (a .m), omega arith, refl)
+starts-within-requires : tie.Need-starts-within-requires
+starts-within-requires c κs = passed c
 
-mul-starts : tie.Need-mul-starts Inv-loop μ-loop
-mul-starts c = search needs
-
-array-write-starts : tie.Need-array-write-starts Inv-loop μ-loop
-array-write-starts c = search needs
-
-mul-start : tie.Need-mul-start Inv-loop μ-loop
-mul-start c = search needs
-
-array-read-start : tie.Need-array-read-start Inv-loop μ-loop
-array-read-start c = search needs
-
-mul-start-2 : tie.Need-mul-start-2 Inv-loop μ-loop
-mul-start-2 c = search needs
-
-array-read-start-2 : tie.Need-array-read-start-2 Inv-loop μ-loop
-array-read-start-2 c = search needs
-
--- the next family begins on the sheet
-fits : (c : tie.In-loop Inv-loop μ-loop) → c .before .loop .start + getD (c .before .before .before .rows-of .result) (c .before .loop .t) 0 * getD (c .before .before .columns-of .result) (c .before .loop .t) 0 ≤ cellCount
-fits c =
-    let start = c .before .before .before .before in
-    let limits = counted (start .args .n) (start .args .m) (start .pre) in
-    next-on-sheet (start .args .n) (start .args .m) (c .before .loop .t) _ _ _ (c .before .before .before .rows-of .ensures) (c .before .before .columns-of .ensures)
-    (c .before .loop .inv .1) (limits .bids) (limits .pools .most) (omega arith)
-
-mul-start-3 : tie.Need-mul-start-3 Inv-loop μ-loop
-mul-start-3 c = omega (arith, fits c)
-
-add-start : tie.Need-add-start Inv-loop μ-loop
-add-start c = omega (arith, fits c)
-
-add-t : tie.Need-add-t Inv-loop μ-loop
-add-t c = search needs
-
-loop-less : tie.Need-loop-less Inv-loop μ-loop
-loop-less c = omega arith
-
-loop-again : tie.Need-loop-again Inv-loop μ-loop
-loop-again c =
-    let start = c .before .before .before .before in
-    let loop = c .before .loop in
-    let before-end : loop .t < length (loop .starts) = omega (arith, loop .inv .3) in (
-      one-more-start (start .args .n) (start .args .m) (loop .t) (loop .start) (loop .starts) (loop .inv .0) (loop .inv .1) before-end,
-      next-start (start .args .n) (start .args .m) (loop .t) (loop .start) _ _ (c .before .before .before .rows-of .ensures) (c .before .before .columns-of .ensures) (loop .inv .1),
-      omega arith,
-      length-set (loop .starts) (loop .t) (loop .start) ∙ loop .inv .3,
-    )
-
-returns : tie.Need-returns Inv-loop μ-loop
-returns c =
-    let loop = c .before .loop in
-    λ t h. loop .inv .0 t (omega (arith, c .loop-test .left))
+returns-2 : tie.Need-returns-2
+returns-2 c t l =
+    let a = c .before .before .before .before .args in
+    c .starts-within .ensures t l ∙ sym (ap (λ (r : Refusal). unless r (from (a .n) (a .m) t) 0) (passed (c .before)))
 
 pub starts-of-spec : {M : Type 1} → statement M
-starts-of-spec =
-    tie.close
-    (tie.spec
-    Inv-loop
-    μ-loop
-    rows-of-requires
-    columns-of-requires
-    loop-holds
-    mul-starts
-    array-write-starts
-    mul-start
-    array-read-start
-    mul-start-2
-    array-read-start-2
-    mul-start-3
-    add-start
-    add-t
-    loop-less
-    loop-again
-    returns)
+starts-of-spec = tie.close (tie.spec judge-counts-requires is-accepted-requires returns starts-within-requires returns-2)

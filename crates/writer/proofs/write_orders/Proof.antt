@@ -2,26 +2,18 @@
 -- The measure is how many orders are left.
 use Prim.Native.Nat.{ℕ, _+_, _-_, _≤_}
 use mathlib.Core.Path.{_≡_, refl, sym, ap, _∙_, subst}
-use mathlib.Core.List.{[], _∷_}
-use mathlib.Core.Logic.{⊎-elim}
 use native.Mathlib.Omega.{arith}
-use denote.Enum.Declared.{tagOf}
-use types.Run.{OneOf}
 use lib.ListN.{length}
 use borrow.Author.Needs.{needs}
 use Rattle.definitions.specs.Bytes.{orderBytes}
-use Rattle.definitions.specs.Answers.{none}
-use Rattle.definitions.specs.Calls.{countsRefusal}
 use Rattle.definitions.specs.Plan.{asked}
 use Rattle.codec.specs.OrderBytes.{at-least-three}
 use Rattle.codec.specs.Writes.{size-with-room, bytes-with-room, bytes-without-room, none-written}
 use Rattle.position.specs.declared.Position.{Position}
-use Rattle.position.specs.declared.Asked.{Asked}
-use Rattle.position.specs.declared.Asked.the-variants as case
-use Rattle.position.proofs.Asked.{the-type}
+use Rattle.position.proofs.Ends.{only-end}
 use Rattle.plan.specs.Plan.{plan}
 use Rattle.position.specs.Answer.{answerOf, SamePlan}
-use Rattle.plan.specs.Asking.{Handed, order-handed, end-reached, never-refused}
+use Rattle.plan.specs.Asking.{Handed, order-handed}
 use Rattle.writer.proofs.Filling.{Filled, begins, goes-on, at-end, no-room, ends, had-room}
 use Rattle.writer.proofs.write_orders.Statement.{statement}
 use Rattle.writer.proofs.write_orders.Tie as tie
@@ -45,12 +37,6 @@ enum-known-order c = search needs
 -- the answer is that at the position which the orders written have come to
 answered : (c : tie.After-ask Inv-loop μ-loop) → let from = c .before .before .before .args .from in answerOf (c .ask .result) ≡ asked plan (from .n) (from .m) (from .at + c .before .loop .orders)
 answered c = c .ask .ensures .0 ∙ ap (λ (p : Position). asked plan (p .n) (p .m) (p .at)) (c .before .loop .inv .stands)
-
--- an answer without an order, within the plan, is its end
-only-end : (n m at : ℕ) → countsRefusal n m ≡ none → at ≤ length (plan n m) → (a : Asked) → OneOf (1 ∷ 2 ∷ []) (tagOf the-type a) → answerOf a ≡ asked plan n m at → at ≡ length (plan n m)
-only-end n m at counts within (case.Order o next) told e = absurd (⊎-elim (λ z. omega arith) (λ z. omega arith) told)
-only-end n m at counts within case.Ended told e = end-reached plan n m at counts within e
-only-end n m at counts within (case.Refused verdict) told e = absurd (never-refused plan n m at counts within _ e)
 
 -- the order handed over, and the position after it
 handed : (c : tie.After-order Inv-loop μ-loop) → let from = c .before .before .before .before .before .args .from in Handed plan (from .n) (from .m) (from .at + c .before .before .before .loop .orders) (c .order .given .0 .0) (c .order .given .0 .1 .0 .at)
