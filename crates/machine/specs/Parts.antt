@@ -1,12 +1,17 @@
--- An order by its numbers, and what its kind makes of them; the last law says that a step is one store of that.
-use Prim.Native.Nat.{ℕ, zero, suc}
+-- An order by its numbers, and what its kind makes of them; a step is one store of that (one-store). The last part says when an order runs.
+use Prim.Native.Nat.{ℕ, zero, suc, _<_}
 use mathlib.Core.Path.{_≡_, refl}
+use mathlib.Core.Bool.{Bool, true, false, cond, _&&_}
 use mathlib.Core.List.{List}
-use lib.ListN.{set}
+use lib.Dec.{eqb, ltb}
+use lib.ListN.{length, set}
+use borrow.Author.Tests.{eqb-true, ltb-true, eq-eqb, lt-ltb}
 use Rattle.definitions.specs.declared.Order.{Order}
 use Rattle.definitions.specs.declared.Order.the-variants.{Constant, Sum, Difference, Product, Less, Equal}
+use Rattle.definitions.specs.Limits.{cellCount, modulus}
 use Rattle.definitions.specs.Answers.{kindOf}
 use Rattle.definitions.specs.Machine.{cell, plus, minus, times, lessThan, sameAs, stepOf}
+use Rattle.laws.specs.Tests.{and-left, and-right}
 use Rattle.machine.specs.declared.Parts.{Parts}
 
 -- what an order of a kind makes of its constant and of two cells' contents
@@ -39,3 +44,52 @@ one-store s (Difference d a b) = refl
 one-store s (Product d a b) = refl
 one-store s (Less d a b) = refl
 one-store s (Equal d a b) = refl
+
+-- the sheet has 4,096 cells, the order's cells are among them, and the two cells read hold residues
+abbrev pub runs : List ℕ → Parts → Bool
+runs s q = eqb (length s) cellCount && (ltb (q .d) cellCount && (ltb (q .a) cellCount && (ltb (q .b) cellCount && (ltb (cell s (q .a)) modulus && ltb (cell s (q .b)) modulus))))
+
+-- an order that can run on a sheet
+abbrev pub runnable : List ℕ → Order → Bool
+runnable s o = runs s (partsOf o)
+
+-- the sheet after an order; an order that cannot run on it leaves it as it is
+unfoldable pub stepped : List ℕ → Order → List ℕ
+stepped s o = cond (runnable s o) (stepOf s o) s
+
+pub stepped-run : (s : List ℕ) (o : Order) → runnable s o ≡ true → stepped s o ≡ stepOf s o
+unfolding stepped
+stepped-run s o e = rw e refl
+
+pub stepped-left : (s : List ℕ) (o : Order) → runnable s o ≡ false → stepped s o ≡ s
+unfolding stepped
+stepped-left s o e = rw e refl
+
+-- what the tests of `runs` say
+pub record Runs (s : List ℕ) (q : Parts) : Type 0 where
+  pub cells : length s ≡ cellCount
+  pub target : q .d < cellCount
+  pub left : q .a < cellCount
+  pub right : q .b < cellCount
+  pub first : cell s (q .a) < modulus
+  pub second : cell s (q .b) < modulus
+
+pub runs-parts : (s : List ℕ) (q : Parts) → runs s q ≡ true → Runs s q
+runs-parts s q e₁ =
+    let e₂ = and-right (eqb (length s) cellCount) _ e₁ in
+    let e₃ = and-right (ltb (q .d) cellCount) _ e₂ in
+    let e₄ = and-right (ltb (q .a) cellCount) _ e₃ in
+    let e₅ = and-right (ltb (q .b) cellCount) _ e₄ in
+    record {
+      cells = eqb-true _ _ (and-left (eqb (length s) cellCount) _ e₁);
+      target = ltb-true _ _ (and-left (ltb (q .d) cellCount) _ e₂);
+      left = ltb-true _ _ (and-left (ltb (q .a) cellCount) _ e₃);
+      right = ltb-true _ _ (and-left (ltb (q .b) cellCount) _ e₄);
+      first = ltb-true _ _ (and-left (ltb (cell s (q .a)) modulus) _ e₅);
+      second = ltb-true _ _ (and-right (ltb (cell s (q .a)) modulus) _ e₅);
+    }
+
+pub parts-run : (s : List ℕ) (q : Parts) → Runs s q → runs s q ≡ true
+parts-run s q h =
+    rw (eq-eqb (length s) cellCount (h .cells), lt-ltb (q .d) cellCount (h .target), lt-ltb (q .a) cellCount (h .left), lt-ltb (q .b) cellCount (h .right), lt-ltb (cell s (q .a)) modulus (h .first), lt-ltb (cell s (q .b)) modulus (h .second))
+    refl

@@ -16,7 +16,7 @@ use Rattle.definitions.specs.declared.Order.{Order}
 use Rattle.definitions.specs.declared.Order.the-variants.{Constant, Sum, Difference, Product, Less, Equal}
 use Rattle.definitions.specs.Machine.{cell, IsSheet, WellFormed, AllWellFormed, stepOf, runOf}
 use Rattle.machine.specs.declared.Parts.{Parts}
-use Rattle.machine.specs.Parts.{resultOf, partsOf, one-store}
+use Rattle.machine.specs.Parts.{resultOf, partsOf, one-store, stepped, stepped-run, parts-run}
 
 -- ---- One order
 
@@ -34,6 +34,21 @@ parts-within (Difference d a b) h = record { target = h .0; left = h .1; right =
 parts-within (Product d a b) h = record { target = h .0; left = h .1; right = h .2; constant = omega arith }
 parts-within (Less d a b) h = record { target = h .0; left = h .1; right = h .2; constant = omega arith }
 parts-within (Equal d a b) h = record { target = h .0; left = h .1; right = h .2; constant = omega arith }
+
+-- on a sheet every order of the machine runs
+pub stepped-is : (s : List ℕ) (o : Order) → IsSheet s → WellFormed o → stepped s o ≡ stepOf s o
+stepped-is s o h w =
+    let p = parts-within o w in
+    stepped-run s o
+    (parts-run s (partsOf o)
+    (record {
+      cells = h .cells;
+      target = p .target;
+      left = p .left;
+      right = p .right;
+      first = h .below (partsOf o .a);
+      second = h .below (partsOf o .b);
+    }))
 
 -- every result is below p
 bit-below : (t : Bool) → cond t 1 0 < modulus

@@ -1,9 +1,10 @@
 // The machine: one order on the sheet.
 ghost use mathlib.Core.Path.{_≡_};
+ghost use mathlib.Core.Bool.{true};
 ghost use Prim.Native.Nat.{_<_};
 ghost use Rattle.definitions.specs.Limits.{modulus};
-ghost use Rattle.definitions.specs.Machine.{IsSheet, WellFormed, stepOf, plus, minus, times, lessThan, sameAs};
-ghost use Rattle.machine.specs.Parts.{partsOf, resultOf};
+ghost use Rattle.definitions.specs.Machine.{stepOf, plus, minus, times, lessThan, sameAs};
+ghost use Rattle.machine.specs.Parts.{partsOf, resultOf, runnable, stepped};
 use definitions::Limits;
 use definitions::Order;
 use definitions::kind;
@@ -125,10 +126,36 @@ fn parts_of(order: Order) -> Parts
     }
 }
 
+// Whether the sheet has 4,096 cells, the order's cells are among them, and the two cells read hold residues.
+fn is_runnable(sheet: &[u32], order: Order) -> bool
+    ensures { λ r. ⌜ r ≡ runnable (now (sheet .entry)) order ⌝ }
+{
+    let parts = parts_of(order);
+    let a = parts.a;
+    let b = parts.b;
+    if sheet.len() != Limits::CELLS {
+        return false;
+    }
+    if Limits::CELLS <= parts.d {
+        return false;
+    }
+    if Limits::CELLS <= a {
+        return false;
+    }
+    if Limits::CELLS <= b {
+        return false;
+    }
+    let x = sheet[a];
+    if Limits::MODULUS <= x {
+        return false;
+    }
+    let y = sheet[b];
+    y < Limits::MODULUS
+}
+
 // One order on the sheet: both cells are read before the target is written.
-pub fn step(sheet: &mut [u32], order: Order)
-    requires { ⌜ IsSheet (now sheet) ⌝ }
-    requires { ⌜ WellFormed order ⌝ }
+fn step_within(sheet: &mut [u32], order: Order)
+    requires { ⌜ runnable (now sheet) order ≡ true ⌝ }
     ensures { λ _. ⌜ now (sheet .exit) ≡ stepOf (now (sheet .entry)) order ⌝ }
 {
     let parts = parts_of(order);
@@ -138,4 +165,13 @@ pub fn step(sheet: &mut [u32], order: Order)
     let x = sheet[a];
     let y = sheet[b];
     sheet[d] = result(parts.kind, parts.k, x, y);
+}
+
+// One order on the sheet; an order that cannot run on it leaves it as lent.
+pub fn step(sheet: &mut [u32], order: Order)
+    ensures { λ _. ⌜ now (sheet .exit) ≡ stepped (now (sheet .entry)) order ⌝ }
+{
+    if is_runnable(sheet, order) {
+        step_within(sheet, order);
+    }
 }

@@ -1,13 +1,20 @@
 -- A whole number of size at most 1,073,741,823 is a residue below p and is read back from it; the last law gives that no two residues read alike.
 use Prim.Native.Nat.{ℕ, suc, _-_, _<_, _≤_}
 use mathlib.Core.Path.{_≡_, refl, sym, ap, _∙_}
-use mathlib.Core.Bool.{Bool, true, false}
+use mathlib.Core.Bool.{Bool, true, false, cond}
 use native.Mathlib.Omega.{arith}
 use lib.Dec.{ltb}
 use lib.IntN.{ℤ, pos, negsuc, _-ℤ_, natAbs}
 use borrow.Author.Tests.{lt-ltb, le-ltb, ltb-true, ltb-false}
 use Rattle.definitions.specs.Limits.{modulus, greatestPositive}
 use Rattle.definitions.specs.Arithmetic.{reading, residue}
+
+-- a cell's number read with sign; a number that is no residue, which no sheet holds, as 0
+abbrev pub read : ℕ → ℤ
+read x = cond (ltb x modulus) (reading x) (pos 0)
+
+pub read-residue : (x : ℕ) → x < modulus → read x ≡ reading x
+read-residue x h = rw (lt-ltb x modulus h) refl
 
 -- a residue less p
 pub lowered : (x : ℕ) → x < modulus → pos x -ℤ pos modulus ≡ negsuc (modulus - suc x)

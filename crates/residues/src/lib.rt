@@ -1,8 +1,7 @@
 // Whole numbers as residues modulo p, and back.
 ghost use mathlib.Core.Path.{_≡_};
-ghost use Prim.Native.Nat.{_<_};
-ghost use Rattle.definitions.specs.Limits.{modulus};
 ghost use Rattle.definitions.specs.Arithmetic as arithmetic;
+ghost use Rattle.residues.specs.Residues.{read};
 use definitions::Limits;
 
 // A number as a cell holds it: a negative one is raised by p. The least i32 stays below 0 even then and becomes 0;
@@ -20,11 +19,13 @@ pub fn residue(v: i32) -> u32
     v as u32
 }
 
-// A cell read with sign.
+// A cell read with sign; a number that is no residue, which no sheet holds, as 0.
 pub fn reading(x: u32) -> i32
-    requires { ⌜ x < modulus ⌝ }
-    ensures { λ r. ⌜ r ≡ arithmetic.reading x ⌝ }
+    ensures { λ r. ⌜ r ≡ read x ⌝ }
 {
+    if Limits::MODULUS <= x {
+        return 0;
+    }
     if Limits::POSITIVE < x {
         return x as i32 - Limits::MODULUS as i32;
     }

@@ -6,6 +6,7 @@ use mir.Val.{toZ, ofZ}
 use borrow.Author.Needs.{needs}
 use Rattle.definitions.specs.Arithmetic.{reading}
 use Rattle.laws.specs.SignedTests.{back}
+use Rattle.residues.specs.Residues.{read-residue}
 use Rattle.machine.proofs.less.Statement.{statement}
 use Rattle.machine.proofs.less.Tie as tie
 
@@ -18,8 +19,8 @@ reading-requires-2 c κs = search needs
 test : (c : tie.After-reading2) → ltZ (toZ w32 (ofZ w32 (c .before .reading .result))) (toZ w32 (ofZ w32 (c .reading2 .result))) ≡ ltZ (reading (c .before .before .args .x)) (reading (c .before .before .args .y))
 test c =
     ap₂ ltZ
-    (back w32 (c .before .reading .result) (c .before .reading .ok) ∙ c .before .reading .ensures)
-    (back w32 (c .reading2 .result) (c .reading2 .ok) ∙ c .reading2 .ensures)
+    (back w32 (c .before .reading .result) (c .before .reading .ok) ∙ c .before .reading .ensures ∙ read-residue _ (c .before .before .pre .0))
+    (back w32 (c .reading2 .result) (c .reading2 .ok) ∙ c .reading2 .ensures ∙ read-residue _ (c .before .before .pre .1))
 
 returns : tie.Need-returns
 returns c = simp (sym (test (c .before)) ∙ c .if1 .taken)

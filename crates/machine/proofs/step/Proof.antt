@@ -1,70 +1,41 @@
--- `step` meets its contract: the order's numbers name cells of the sheet, and what is stored is what `one-store` says.
-use Prim.Native.Nat.{ℕ, _<_}
-use mathlib.Core.Path.{sym, ap, subst, _∙_}
-use mathlib.Core.List.{List}
-use lib.ListN.{length, set}
-use borrow.Author.Needs.{needs, scaled-fits}
-use Rattle.definitions.specs.Limits.{cellCount}
-use Rattle.definitions.specs.Machine.{IsSheet}
-use Rattle.machine.specs.Parts.{store, one-store}
-use Rattle.machine.specs.Run.{PartsWithin, parts-within}
+-- `step` meets its contract: the order runs exactly if `is_runnable` says so.
+use mathlib.Core.Path.{sym, _∙_}
+use borrow.Author.Needs.{needs}
+use Rattle.machine.specs.Parts.{stepped-run, stepped-left}
 use Rattle.machine.proofs.step.Statement.{statement}
 use Rattle.machine.proofs.step.Tie as tie
 
-within : (c : tie.After-parts-of) → PartsWithin (c .parts-of .result)
-within c =
-    subst PartsWithin (sym (c .parts-of .ensures))
-    (parts-within (c .before .before .args .order) (c .before .before .pre .1))
+is-runnable-requires : tie.Need-is-runnable-requires
+is-runnable-requires c κs = search needs
 
-in-sheet : (s : List ℕ) (i : ℕ) → IsSheet s → i < cellCount → i < length s
-in-sheet s i h l = rw (h .cells) l
-
-parts-of-requires : tie.Need-parts-of-requires
-parts-of-requires c κs = search needs
-
-slice-read-x : tie.Need-slice-read-x
-slice-read-x c = in-sheet _ _ (c .before .before .before .pre .0) (within (c .before) .left)
-
-mul-x : tie.Need-mul-x
-mul-x c = scaled-fits _ _ 4 (in-sheet (c .before .before .args .sheet .now) _ (c .before .before .pre .0) (within c .left)) (c .before .before .good .0 .1)
-
-slice-read-y : tie.Need-slice-read-y
-slice-read-y c = in-sheet _ _ (c .before .before .before .before .pre .0) (within (c .before .before) .right)
-
-mul-y : tie.Need-mul-y
-mul-y c = scaled-fits _ _ 4 (in-sheet (c .before .before .before .args .sheet .now) _ (c .before .before .before .pre .0) (within (c .before) .right)) (c .before .before .before .good .0 .1)
-
-result-requires : tie.Need-result-requires
-result-requires c κs = let h = c .before .before .before .before .pre .0 in (h .below _, h .below _)
-
-slice-write-sheet : tie.Need-slice-write-sheet
-slice-write-sheet c = in-sheet _ _ (c .before .before .before .before .before .pre .0) (within (c .before .before .before) .target)
-
-mul-sheet : tie.Need-mul-sheet
-mul-sheet c = scaled-fits _ _ 4 (slice-write-sheet c) (c .before .before .before .before .before .good .0 .1)
+step-within-requires : tie.Need-step-within-requires
+step-within-requires c κs = sym (c .before .before .is-runnable .ensures) ∙ c .before .if1 .taken
 
 same-length : tie.Need-same-length
 same-length c = search needs
 
 returns : tie.Need-returns
 returns c =
-    let q = c .before .before .before .parts-of in
-    let a = c .before .before .before .before .before .args in
-    ap (set (a .sheet .now) (q .result .d)) (c .result .ensures)
-    ∙ ap (store (a .sheet .now)) (q .ensures)
-    ∙ sym (one-store (a .sheet .now) (a .order))
+    let t = c .before .before .before .before in
+    let a = t .before .before .before .before .args in
+    c .before .before .step-within .ensures
+    ∙ sym (stepped-run (a .sheet .now) (a .order) (sym (t .before .is-runnable .ensures) ∙ t .if1 .taken))
+
+same-length-2 : tie.Need-same-length-2
+same-length-2 c = search needs
+
+returns-2 : tie.Need-returns-2
+returns-2 c =
+    let a = c .before .before .before .before .args in
+    sym (stepped-left (a .sheet .now) (a .order) (sym (c .before .is-runnable .ensures) ∙ c .if1 .left))
 
 pub step-spec : {M : Type 1} → statement M
 step-spec =
     tie.close
     (tie.spec
-    parts-of-requires
-    mul-x
-    slice-read-x
-    mul-y
-    slice-read-y
-    result-requires
-    mul-sheet
-    slice-write-sheet
+    is-runnable-requires
+    step-within-requires
     same-length
-    returns)
+    returns
+    same-length-2
+    returns-2)

@@ -8,9 +8,10 @@ use lib.IntN.{ℤ, pos}
 use lib.ListN.{length, length-set}
 use lib.Seq.{paste, paste-zero}
 use mir.Syntax.{w32}
-use borrow.Author.Needs.{scaled-fits}
+use borrow.Author.Needs.{needs, scaled-fits}
 use Rattle.laws.specs.SignedTests.{back}
 use Rattle.laws.specs.Write.{one-more, all}
+use Rattle.residues.specs.Residues.{read-residue}
 use Rattle.opening.proofs.Readings.{readings, readings-length, reading-at, written-over}
 use Rattle.opening.proofs.copy_readings.Statement.{statement}
 use Rattle.opening.proofs.copy_readings.Tie as tie
@@ -44,7 +45,7 @@ shared-slice-read-x : tie.Need-shared-slice-read-x Inv-loop μ-loop
 shared-slice-read-x c = omega arith
 
 reading-requires : tie.Need-reading-requires Inv-loop μ-loop
-reading-requires c κs = c .before .before .before .before .pre .1 _
+reading-requires c κs = search needs
 
 mul-r : tie.Need-mul-r Inv-loop μ-loop
 mul-r c =
@@ -70,7 +71,7 @@ loop-again c =
       omega arith,
       length-set (l .out) (l .i) _ ∙ l .inv .1,
       rw (zero-add (l .i)) at (one-more (pos 0) (a .out .now) (l .out) 0 (source s) (l .i) _ (l .inv .2)
-          (back w32 (c .reading .result) (c .reading .ok) ∙ c .reading .ensures ∙ sym (reading-at (a .sheet .now) (a .from) (length (a .out .now)) (l .i) h))
+          (back w32 (c .reading .result) (c .reading .ok) ∙ c .reading .ensures ∙ read-residue _ (s .pre .1 _) ∙ sym (reading-at (a .sheet .now) (a .from) (length (a .out .now)) (l .i) h))
           (omega arith)
           (rw (source-length s) h)),
     )

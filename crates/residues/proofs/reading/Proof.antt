@@ -1,6 +1,6 @@
 -- `reading` meets its contract: below p a cell fits an i32, and so does the cell less p.
 use Prim.Native.Nat.{_<_, _^_}
-use mathlib.Core.Path.{_≡_, ap, _∙_}
+use mathlib.Core.Path.{_≡_, refl, ap, _∙_}
 use native.Mathlib.Omega.{arith}
 use lib.IntN.{ℤ, pos, _-ℤ_}
 use borrow.Author.Tests.{lt-ltb, le-ltb}
@@ -8,14 +8,17 @@ use borrow.Author.Needs.{needs}
 use mir.Syntax.{w32}
 use mir.Val.{toZ, SFits}
 use mir.Facts.{toZ-pos, toZ-ofZ}
-use Rattle.definitions.specs.Limits.{modulus}
+use Rattle.definitions.specs.Limits.{modulus, greatestPositive}
 use Rattle.residues.specs.Residues.{lowered}
 use Rattle.residues.proofs.reading.Statement.{statement}
 use Rattle.residues.proofs.reading.Tie as tie
 
--- the cell as an i32
-itself : (c : tie.Start) → toZ w32 (c .args .x) ≡ pos (c .args .x)
-itself c = toZ-pos w32 (let h : c .args .x < 2 ^ 31 = omega (arith, c .pre) in h)
+-- a residue as an i32
+itself : (c : tie.Else1) → toZ w32 (c .before .args .x) ≡ pos (c .before .args .x)
+itself c = toZ-pos w32 (let h : c .before .args .x < 2 ^ 31 = omega (arith, c .if1 .left) in h)
+
+returns : tie.Need-returns
+returns c = simp (le-ltb _ _ (c .if1 .taken))
 
 cast-result : tie.Need-cast-result
 cast-result c = search needs
@@ -24,21 +27,23 @@ cast-result-2 : tie.Need-cast-result-2
 cast-result-2 c = search needs
 
 sub-result : tie.Need-sub-result
-sub-result c = rw (itself (c .before), lowered (c .before .args .x) (c .before .pre)) (record { sfits = omega arith })
+sub-result c = rw (itself (c .before), lowered (c .before .before .args .x) (c .before .if1 .left)) (record { sfits = omega arith })
 
-returns : tie.Need-returns
-returns c =
-    let f : SFits w32 (toZ w32 (c .before .args .x) -ℤ pos modulus) = sub-result c in
+returns-2 : tie.Need-returns-2
+returns-2 c =
+    let f : SFits w32 (toZ w32 (c .before .before .args .x) -ℤ pos modulus) = sub-result c in
     toZ-ofZ f
     ∙ ap (λ (z : ℤ). z -ℤ pos modulus) (itself (c .before))
-    ∙ simp (lt-ltb _ _ (c .if1 .taken))
+    ∙ rw (lt-ltb (c .before .before .args .x) modulus (c .before .if1 .left), lt-ltb greatestPositive (c .before .before .args .x) (c .if2 .taken)) refl
 
 cast-result-3 : tie.Need-cast-result-3
 cast-result-3 c = search needs
 
-returns-2 : tie.Need-returns-2
-returns-2 c = itself (c .before) ∙ simp (le-ltb _ _ (c .if1 .left))
+returns-3 : tie.Need-returns-3
+returns-3 c =
+    itself (c .before)
+    ∙ rw (lt-ltb (c .before .before .args .x) modulus (c .before .if1 .left), le-ltb greatestPositive (c .before .before .args .x) (c .if2 .left)) refl
 
 pub reading-spec : {M : Type 1} → statement M
 reading-spec =
-    tie.close (tie.spec cast-result cast-result-2 sub-result returns cast-result-3 returns-2)
+    tie.close (tie.spec returns cast-result cast-result-2 sub-result returns-2 cast-result-3 returns-3)

@@ -8,6 +8,7 @@ use Rattle.definitions.specs.Answers.{none, refusalOf}
 use Rattle.definitions.specs.Bytes.{orderAt}
 use Rattle.codec.specs.Answer.{given, answerAt, orderAnswer}
 use Rattle.codec.specs.PlanBytes.{rest-end}
+use Rattle.machine.specs.Run.{stepped-is}
 use Rattle.runner.proofs.Turns.{Running, begin, onward, finish, turn-refused, turn-read}
 use Rattle.runner.proofs.run_orders.Statement.{statement}
 use Rattle.runner.proofs.run_orders.Tie as tie
@@ -45,7 +46,7 @@ answered : (c : tie.After-known-told Inv-loop μ-loop) → given (c .before .ord
 answered c = sym (ap orderAnswer (c .before .order .given .1)) ∙ c .before .before .before .read-order .ensures
 
 step-requires : tie.Need-step-requires Inv-loop μ-loop
-step-requires c κs = (c .before .before .before .before .before .before .loop .inv .is-sheet, turn-read _ _ _ _ (answered (c .before)) .wellFormed)
+step-requires c κs = search needs
 
 add-count : tie.Need-add-count Inv-loop μ-loop
 add-count c =
@@ -61,7 +62,7 @@ loop-again : tie.Need-loop-again Inv-loop μ-loop
 loop-again c =
     let l = c .before .before .before .before .before .before .before .before .before .loop in
     let a = c .before .before .before .before .before .before .before .before .before .before .before .before .args in
-    onward (a .bytes .now) (a .sheet .now) (l .sheet) (l .at) (l .count) (l .inv) _ _ (c .before .before .step .last .0) (c .before .before .before .before .before .before .before .before .loop-test .taken) (answered (c .before .before .before .before)) (c .before .before .step .ensures)
+    onward (a .bytes .now) (a .sheet .now) (l .sheet) (l .at) (l .count) (l .inv) _ _ (c .before .before .step .last .0) (c .before .before .before .before .before .before .before .before .loop-test .taken) (answered (c .before .before .before .before)) (c .before .before .step .ensures ∙ stepped-is (l .sheet) _ (l .inv .is-sheet) (turn-read _ _ _ _ (answered (c .before .before .before .before)) .wellFormed))
 
 same-length-2 : tie.Need-same-length-2 Inv-loop μ-loop
 same-length-2 c = c .before .loop .inv .is-sheet .cells ∙ sym (c .before .before .before .before .pre .cells)
