@@ -1,8 +1,8 @@
--- The sheet stays a sheet, of the same length, under an order and under a list of orders; a list run after another is one run.
+-- An order of the machine runs on every sheet (`stepped-is`), and the sheet stays a sheet under an order and under a list of orders.
 use Prim.Native.Nat.{ℕ, zero, suc, _<_}
-use mathlib.Core.Path.{_≡_, refl, sym, subst, _∙_}
+use mathlib.Core.Path.{_≡_, sym, subst, _∙_}
 use mathlib.Core.Bool.{Bool, true, false, cond}
-use mathlib.Core.List.{List, [], _∷_, _++_}
+use mathlib.Core.List.{List, [], _∷_}
 use native.Mathlib.Omega.{arith}
 use native.Mathlib.Decide.{ℕ-discrete}
 use native.Mathlib.Nat.{mod-lt}
@@ -78,26 +78,9 @@ step-sheet s o h w =
     let p = parts-within o w in
     subst IsSheet (sym (one-store s o)) (set-sheet s (q .d) _ h (p .target) (result-below (q .kind) (q .k) _ _ (p .constant)))
 
-pub step-length : (s : List ℕ) (o : Order) → length (stepOf s o) ≡ length s
-step-length s o = rw (one-store s o) (length-set s _ _)
-
 -- ---- A list of orders
-
-pub append-well-formed : (xs ys : List Order) → AllWellFormed xs → AllWellFormed ys → AllWellFormed (xs ++ ys)
-append-well-formed [] ys h k = k
-append-well-formed (x ∷ xs) ys h k = (h .0, append-well-formed xs ys (h .1) k)
 
 pub run-sheet : (os : List Order) (s : List ℕ) → IsSheet s → AllWellFormed os → IsSheet (runOf os s)
 unfolding runOf
 run-sheet [] s h w = h
 run-sheet (o ∷ os) s h w = run-sheet os (stepOf s o) (step-sheet s o h (w .0)) (w .1)
-
-pub run-length : (os : List Order) (s : List ℕ) → length (runOf os s) ≡ length s
-unfolding runOf
-run-length [] s = refl
-run-length (o ∷ os) s = run-length os (stepOf s o) ∙ step-length s o
-
-pub run-append : (xs ys : List Order) (s : List ℕ) → runOf (xs ++ ys) s ≡ runOf ys (runOf xs s)
-unfolding runOf
-run-append [] ys s = refl
-run-append (x ∷ xs) ys s = run-append xs ys (stepOf s x)

@@ -8,6 +8,7 @@ use borrow.Author.Needs.{needs}
 use Rattle.definitions.specs.Machine.{WellFormed}
 use Rattle.definitions.specs.Plan.{asked}
 use Rattle.position.proofs.Ends.{only-end}
+use Rattle.machine.specs.Run.{stepped-is}
 use Rattle.plan.specs.Plan.{plan}
 use Rattle.plan.specs.List.{plan-well-formed}
 use Rattle.laws.specs.Sizes.{counted}
@@ -76,7 +77,7 @@ returns c =
     (end, ends plan (start .args .n) (start .args .m) (start .args .sheet .now) (loop .sheet) (loop .position) (loop .inv) end)
 
 step-requires : tie.Need-step-requires Inv-loop μ-loop
-step-requires c κs = (c .before .before .before .before .before .loop .inv .sheet, well-formed (c .before .before))
+step-requires c κs = search needs
 
 loop-less : tie.Need-loop-less Inv-loop μ-loop
 loop-less c = let h = handed (c .before .before .before .before .before) in omega (arith, h .before-end, h .moves-on)
@@ -87,7 +88,7 @@ loop-again c =
     let loop = c .before .before .before .before .before .before .before .before .loop in
     let order = c .before .before .before .before .before in
     goes-on plan (start .args .n) (start .args .m) (start .args .sheet .now) (loop .sheet) (c .before .before .step .last .0) (loop .position) (order .order .given .0 .1 .0)
-    (order .order .given .0 .0) (loop .inv) (handed order) (well-formed order) (c .before .before .step .ensures) (same-plan order)
+    (order .order .given .0 .0) (loop .inv) (handed order) (well-formed order) (c .before .before .step .ensures ∙ stepped-is (loop .sheet) (order .order .given .0 .0) (loop .inv .sheet) (well-formed order)) (same-plan order)
 
 pub run-plan-spec : {M : Type 1} → statement M
 run-plan-spec =
