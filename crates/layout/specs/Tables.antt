@@ -1,7 +1,7 @@
 -- The layout as the code's two tables have it: where each family of cells begins, and how many columns it has.
 use mathlib.Core.Path.{_≡_, refl, sym, ap, _∙_}
-use mathlib.Core.List.{List, [], _∷_}
-use Prim.Native.Nat.{ℕ, zero, suc, _+_, _*_, _^_, _≤_, _<_}
+use mathlib.Core.List.{List}
+use Prim.Native.Nat.{ℕ, suc, _+_, _*_, _^_, _≤_, _<_}
 use native.Mathlib.Omega.{arith}
 use native.Mathlib.Nat.{eq-or-lt-of-le}
 use native.Mathlib.Numerals.{add-one}
@@ -31,16 +31,6 @@ StartsTo n m k starts = (t : ℕ) → t < k → getD starts t 0 ≡ from n m t
 -- starts says where every family begins
 abbrev pub AreStarts : (n m : ℕ) → List ℕ → Type 0
 AreStarts n m starts = StartsTo n m familyCount starts
-
--- a table of k zeros
-abbrev zeros : ℕ → List ℕ
-zeros zero = []
-zeros (suc k) = 0 ∷ zeros k
-
-pub zero-entry : (k t : ℕ) → getD (zeros k) t 0 ≡ 0
-zero-entry zero t = refl
-zero-entry (suc k) zero = refl
-zero-entry (suc k) (suc t) = zero-entry k t
 
 -- the same for accepted counts; for refused ones every entry is 0
 abbrev pub StartsOrNone : (n m : ℕ) → List ℕ → Type 0

@@ -34,10 +34,6 @@ module _ (P : Plan) (n m at : ℕ) where
   pub within-total : countsRefusal n m ≡ none → at ≤ length (P n m) → askRefusal P n m at ≡ none
   within-total e h = ask-refusal e ∙ simp (le-ltb _ _ h)
 
-  pub asked-past : countsRefusal n m ≡ none → length (P n m) < at → asked P n m at ≡ refused (refuse 13 0)
-  unfolding asked
-  asked-past e h = ap (λ (r : Refusal). answered r (entry (P n m) at)) (past-total e h)
-
   asked-within : countsRefusal n m ≡ none → at ≤ length (P n m) → asked P n m at ≡ entry (P n m) at
   unfolding asked
   asked-within e h = ap (λ (r : Refusal). answered r (entry (P n m) at)) (within-total e h)

@@ -1,5 +1,6 @@
 -- `starts_of` meets its contract: the counts are judged first.
 use mathlib.Core.Path.{_≡_, sym, ap, _∙_}
+use lib.ListN.{getD-replicate}
 use borrow.Author.Needs.{needs}
 use Rattle.definitions.specs.Answers.{Refusal, none, unless}
 use Rattle.definitions.specs.Calls.{countsRefusal}
@@ -7,7 +8,6 @@ use Rattle.laws.specs.Refusal.{unless-refused}
 use Rattle.laws.specs.Search.{turned-away, let-through}
 use Rattle.plan.specs.Names.{familyCount}
 use Rattle.plan.specs.Plan.{from}
-use Rattle.layout.specs.Tables.{zero-entry}
 use Rattle.layout.proofs.starts_of.Statement.{statement}
 use Rattle.layout.proofs.starts_of.Tie as tie
 
@@ -21,7 +21,7 @@ returns : tie.Need-returns
 returns c t l =
     let a = c .before .before .before .args in
     let refused = turned-away (c .before .before .judge-counts .ensures) (c .before .is-accepted .ensures) (c .if1 .taken) in
-    zero-entry familyCount t ∙ sym (unless-refused (countsRefusal (a .n) (a .m)) (from (a .n) (a .m) t) 0 refused)
+    getD-replicate familyCount t 0 0 l ∙ sym (unless-refused (countsRefusal (a .n) (a .m)) (from (a .n) (a .m) t) 0 refused)
 
 passed : (c : tie.Else1) → let a = c .before .before .before .args in countsRefusal (a .n) (a .m) ≡ none
 passed c = let-through (c .before .before .judge-counts .ensures) (c .before .is-accepted .ensures) (c .if1 .left)
