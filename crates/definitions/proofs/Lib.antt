@@ -1,6 +1,8 @@
 -- Computed facts that hold the definitions to document 01.
+pub mod Cases
 pub mod TableFacts
 pub mod ClearingFacts
 pub mod OrderFacts
 pub mod PlanFacts
+pub mod OutcomeFacts
 pub mod SettleFacts

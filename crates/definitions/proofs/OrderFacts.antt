@@ -1,16 +1,21 @@
 -- The machine's orders and their bytes on single cases, by computation.
 use mathlib.Core.Path.{_≡_, refl}
-use mathlib.Core.List.{[], _∷_}
-use lib.ListN.{replicate}
+use Prim.Native.Nat.{ℕ}
+use mathlib.Core.List.{List, [], _∷_}
+use lib.ListN.{length, replicate}
 use Rattle.definitions.specs.declared.Order.the-variants.{Constant, Sum, Difference, Product, Less, Equal}
-use Rattle.definitions.specs.Machine.{times, lessThan, stepOf}
+use Rattle.definitions.specs.Limits.{cellCount}
+use Rattle.definitions.specs.Machine.{times, lessThan, stepOf, runOf}
 use Rattle.definitions.specs.Answers.{refuse, none}
-use Rattle.definitions.specs.Bytes.{groups, numberBytes, numbersOf, orderBytes, fault, found, readGroups, numberAt, kindAt, cellAt, constantAt, lastAt, restAt, targetAt, orderAt, parse, parseFrom}
-use Rattle.definitions.specs.Calls.{runRefusal, cellsRefusal, firstFrom}
+use Rattle.definitions.specs.Bytes.{groups, numberBytes, numbersOf, orderBytes, fault, found, readGroups, numberAt, kindAt, cellAt, constantAt, cellsOrders, ofKind, lastAt, restAt, targetAt, orderAt, parse, parseFrom}
+use Rattle.definitions.specs.Calls.{runRefusal, runSheet, runCount, cellsRefusal, firstFrom}
 
--- examples 8 and 9, and the comparison's other side
-products : times 46341 46341 ∷ lessThan 1073741824 0 ∷ lessThan 0 1073741824 ∷ lessThan 1073741823 1073741823 ∷ [] ≡ 4634 ∷ 1 ∷ 0 ∷ 0 ∷ []
+-- products just below and above p; the comparison at the edge of the sign
+products : times 32768 65535 ∷ times 46340 46341 ∷ times 65536 65536 ∷ [] ≡ 2147450880 ∷ 2147441940 ∷ 2 ∷ []
 products = refl
+
+signs : lessThan 0 1073741824 ∷ lessThan 1073741823 1073741824 ∷ lessThan 1073741824 2147483646 ∷ lessThan 1073741823 1073741823 ∷ [] ≡ 0 ∷ 0 ∷ 1 ∷ 0 ∷ []
+signs = refl
 
 -- each kind, on two cells; a, b and d may coincide
 kinds :
@@ -42,10 +47,9 @@ kinds-read :
 unfolding orderBytes numberBytes groups orderAt targetAt restAt lastAt kindAt cellAt constantAt numberAt readGroups
 kinds-read = refl
 
--- example 10: 00 AC 02 FE FF FF FF 07
-constant : orderBytes (Constant 300 2147483646) ≡ 0 ∷ 172 ∷ 2 ∷ 254 ∷ 255 ∷ 255 ∷ 255 ∷ 7 ∷ []
-unfolding orderBytes numberBytes groups
-constant = refl
+-- no order of two cells has another kind
+other-kinds : ofKind 0 4 (cellsOrders 9 8 7) ∷ ofKind 6 4 (cellsOrders 9 8 7) ∷ [] ≡ fault 10 ∷ fault 10 ∷ []
+other-kinds = refl
 
 -- reading: an order at an offset; 9 after no byte and after four; 11 after five, for a longer form, and for 2^32; a lone kind 6 is 10, in a longer form 11;
 -- 12 for a cell and a constant just beyond
@@ -76,3 +80,14 @@ runs : runRefusal (2147483647 ∷ []) (6 ∷ []) ∷ runRefusal (2147483647 ∷ 
     ≡ refuse 3 0 ∷ refuse 15 0 ∷ []
 unfolding runRefusal cellsRefusal firstFrom
 runs = refl
+
+-- on every sheet: two orders run; bytes of which the second order is refused run none of them; no bytes are a run of no orders
+module _ (s : List ℕ) (cells : length s ≡ cellCount) (residues : cellsRefusal s ≡ none) where
+  ran : runSheet s (0 ∷ 1 ∷ 5 ∷ 1 ∷ 0 ∷ 1 ∷ 1 ∷ []) ∷ runSheet s (0 ∷ 1 ∷ 5 ∷ 6 ∷ []) ∷ runSheet s [] ∷ []
+      ≡ runOf (Constant 1 5 ∷ Sum 0 1 1 ∷ []) s ∷ s ∷ s ∷ []
+  unfolding runSheet runRefusal runOf parse parseFrom orderAt targetAt restAt lastAt kindAt cellAt constantAt numberAt readGroups
+  ran = rw (cells, residues) refl
+
+  counted : runCount s (0 ∷ 1 ∷ 5 ∷ 1 ∷ 0 ∷ 1 ∷ 1 ∷ []) ∷ runCount s (0 ∷ 1 ∷ 5 ∷ 6 ∷ []) ∷ runCount s [] ∷ [] ≡ 2 ∷ 0 ∷ 0 ∷ []
+  unfolding runCount runRefusal parse parseFrom orderAt targetAt restAt lastAt kindAt cellAt constantAt numberAt readGroups
+  counted = rw (cells, residues) refl

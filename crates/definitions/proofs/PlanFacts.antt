@@ -2,11 +2,12 @@
 use Prim.Native.Nat.{ℕ}
 use mathlib.Core.Path.{_≡_, refl}
 use mathlib.Core.List.{List, [], _∷_}
+use lib.ListN.{replicate}
 use Rattle.definitions.specs.declared.Order.{Order}
 use Rattle.definitions.specs.declared.Order.the-variants.{Constant, Sum}
 use Rattle.definitions.specs.Answers.{refuse}
 use Rattle.definitions.specs.Bytes.{groups, numberBytes, orderBytes, ordersBytes}
-use Rattle.definitions.specs.Plan.{order, ended, refused, askRefusal, asked, collected, fitting, writeRefusal, ordersWritten, bytesWritten, writtenCounts, writeCounts, writeSlice, lowestFirst, totalRefusal, totalSlice, bytesRefusal}
+use Rattle.definitions.specs.Plan.{order, ended, refused, askRefusal, asked, collected, total, fitting, writeRefusal, ordersWritten, bytesWritten, writtenCounts, writeCounts, writeSlice, lowestFirst, totalRefusal, totalSlice, bytesRefusal, bytesSlice, countsSlice}
 
 -- orders of 8, 4 and 3 bytes
 three : (n m : ℕ) → List Order
@@ -38,8 +39,23 @@ refusals : writeRefusal three 0 1 4 7 ∷ writeRefusal three 0 1 3 7 ∷ bytesRe
 unfolding three writeRefusal askRefusal bytesRefusal totalRefusal
 refusals = refl
 
--- the C forms' numbers, lowest byte first
-forms : totalSlice three 0 1 (9 ∷ 9 ∷ 9 ∷ 9 ∷ 9 ∷ 9 ∷ 9 ∷ 9 ∷ []) ∷ lowestFirst 3 66051 ∷ []
-    ≡ (3 ∷ 0 ∷ 0 ∷ 0 ∷ 0 ∷ 0 ∷ 0 ∷ 0 ∷ []) ∷ (3 ∷ 2 ∷ 1 ∷ []) ∷ []
+-- the total, 0 for refused counts; the C form's 8 bytes, lowest first
+totals : total three 0 1 ∷ total three 65 1 ∷ total three 0 5 ∷ [] ≡ 3 ∷ 0 ∷ 0 ∷ []
+unfolding three total
+totals = refl
+
+forms : totalSlice three 0 1 (replicate 8 9) ∷ totalSlice three 0 1 (replicate 7 9) ∷ lowestFirst 3 66051 ∷ []
+    ≡ (3 ∷ 0 ∷ 0 ∷ 0 ∷ 0 ∷ 0 ∷ 0 ∷ 0 ∷ []) ∷ replicate 7 9 ∷ (3 ∷ 2 ∷ 1 ∷ []) ∷ []
 unfolding three totalSlice totalRefusal lowestFirst
 forms = refl
+
+-- "24 for the writer's bytes, orders and next position": from position 1 in 8 bytes, 7 bytes, 2 orders, position 3; a refusal keeps both slices
+host-bytes : bytesSlice three 0 1 1 (replicate 8 9) 24 ∷ bytesSlice three 0 1 1 (replicate 8 9) 23 ∷ []
+    ≡ (1 ∷ 1 ∷ 2 ∷ 3 ∷ 0 ∷ 5 ∷ 0 ∷ 9 ∷ []) ∷ replicate 8 9 ∷ []
+unfolding three bytesSlice bytesRefusal bytesWritten ordersWritten fitting ordersBytes orderBytes numberBytes groups
+host-bytes = refl
+
+host-counts : countsSlice three 0 1 1 8 (replicate 24 9) ∷ countsSlice three 0 1 1 7 (replicate 24 9) ∷ []
+    ≡ (7 ∷ 0 ∷ 0 ∷ 0 ∷ 0 ∷ 0 ∷ 0 ∷ 0 ∷ 2 ∷ 0 ∷ 0 ∷ 0 ∷ 0 ∷ 0 ∷ 0 ∷ 0 ∷ 3 ∷ 0 ∷ 0 ∷ 0 ∷ 0 ∷ 0 ∷ 0 ∷ 0 ∷ []) ∷ replicate 24 9 ∷ []
+unfolding three countsSlice bytesRefusal writtenCounts bytesWritten ordersWritten fitting ordersBytes orderBytes numberBytes groups lowestFirst
+host-counts = refl

@@ -1,6 +1,7 @@
--- Sums over an index, tests on whole numbers, and whole numbers as residues.
+-- Sums and lists over an index, tests on whole numbers, and whole numbers as residues.
 use Prim.Native.Nat.{ℕ, zero, suc, _+_, _-_}
 use mathlib.Core.Bool.{Bool, false, cond, _&&_}
+use mathlib.Core.List.{List, [], _++_}
 use lib.Dec.{ltb, eqb}
 use lib.IntN.{ℤ, pos, negsuc, _+ℤ_, _-ℤ_}
 use lib.Signed.{leZ}
@@ -20,6 +21,11 @@ unfoldable pub sumZ : ℕ → (ℕ → ℤ) → ℤ
 sumZ zero f = pos 0
 sumZ (suc n) f = sumZ n f +ℤ f n
 
+-- the lists f 0, f 1, .., f (n - 1), one after another
+unfoldable pub joinTo : {A : Type 0} → ℕ → (ℕ → List A) → List A
+joinTo zero f = []
+joinTo (suc n) f = joinTo n f ++ f n
+
 -- low ≤ z ≤ high
 abbrev pub within : ℤ → ℤ → ℤ → Bool
 within low high z = leZ low z && leZ z high
@@ -35,7 +41,8 @@ eqZ (negsuc a) (negsuc b) = eqb a b
 abbrev pub reading : ℕ → ℤ
 reading x = cond (ltb greatestPositive x) (pos x -ℤ pos modulus) (pos x)
 
--- "a negative number v is written as v + p, in results too"
+-- "a negative number v is written as v + p, in results too"; p and what lies above it stay as they are, below −p the difference cut off
+-- at 0 is 0, and no accepted book has such a number
 abbrev pub residue : ℤ → ℕ
 residue (pos v) = v
 residue (negsuc v) = modulus - suc v

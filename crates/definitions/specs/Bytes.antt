@@ -118,24 +118,27 @@ abbrev pub andThen : {A : Type 0} → Read ℕ → (ℕ → ℕ → Read A) → 
 andThen (fault k) f = fault k
 andThen (found v next) f = f v next
 
--- the order of a kind, 1 to 5: "1, 2, 3: .. the sum, the difference, the product", 4 "less", 5 "equal";
--- kind 0 does not come here: `restAt` reads its constant
-abbrev pub cellsOrder : (kind d a b : ℕ) → Order
-cellsOrder zero d a b = Equal d a b
-cellsOrder (suc zero) d a b = Sum d a b
-cellsOrder (suc (suc zero)) d a b = Difference d a b
-cellsOrder (suc (suc (suc zero))) d a b = Product d a b
-cellsOrder (suc (suc (suc (suc zero)))) d a b = Less d a b
-cellsOrder (suc (suc (suc (suc (suc k))))) d a b = Equal d a b
+-- "d, then .. a, b": the orders that read two cells
+abbrev pub cellsOrders : (d a b : ℕ) → List Order
+cellsOrders d a b = Sum d a b ∷ Difference d a b ∷ Product d a b ∷ Less d a b ∷ Equal d a b ∷ []
+
+-- the order of a kind among some orders, and the offset after it; 10 where none of them is of that kind
+abbrev pub ofKind : (kind next : ℕ) → List Order → Read Order
+ofKind kind next [] = fault 10
+ofKind kind next (o ∷ os) = cond (eqb (kindOf o) kind) (found o next) (ofKind kind next os)
 
 -- what follows the kind, the target and the first cell: the second cell
 unfoldable pub lastAt : List ℕ → (kind d a at : ℕ) → Read Order
-lastAt s kind d a at = andThen (cellAt s at) (λ b next. found (cellsOrder kind d a b) next)
+lastAt s kind d a at = andThen (cellAt s at) (λ b next. ofKind kind next (cellsOrders d a b))
 
--- what follows the kind and the target: k for kind 0, else a, b
+-- the kind of a constant, whatever its target and its number
+abbrev pub constantKind : ℕ
+constantKind = kindOf (Constant 0 0)
+
+-- what follows the kind and the target: k for a constant, else a, b
 unfoldable pub restAt : List ℕ → (kind d at : ℕ) → Read Order
 restAt s kind d at =
-    cond (eqb kind 0)
+    cond (eqb kind constantKind)
     (andThen (constantAt s at) (λ k next. found (Constant d k) next))
     (andThen (cellAt s at) (λ a next. lastAt s kind d a next))
 

@@ -32,6 +32,7 @@ outflow B flow p = sumTo (B .m) (λ b. flow p b)
 
 -- "The accepted amount of a bid lies between 0 and the size of its quantity. A flow lies between 0 and its capacity.
 -- In each pool, accepted sales plus inflow equal accepted purchases plus outflow. That is a feasible clearing."
+-- Formulas (4), (3) and (2) of document 003, in this order.
 pub record Feasible (B : Book) (c : Clearing) : Type 0 where
   pub amounts : (i : ℕ) → i < B .n → c .accepted i ≤ size B i
   pub flows : (a b : ℕ) → a < B .m → b < B .m → c .flow a b ≤ capacity B a b
@@ -69,7 +70,7 @@ pub data NoGreater (B : Book) (y x : ℕ → ℕ) : Type 0 where
 
 -- "The best clearing's used amounts, listed in merit order, are the greatest in dictionary order among all feasible clearings."
 pub record Best (B : Book) (c : Clearing) : Type 0 where
-  pub feasible : Feasible B c
+  pub feasible : Feasible B c  -- it is one of them
   pub greatest : (d : Clearing) → Feasible B d → NoGreater B (used B (d .accepted)) (used B (c .accepted))
 
 -- "Flows are free, save that the clearing is feasible with them and no pair of pools ships both ways."

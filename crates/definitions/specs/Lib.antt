@@ -10,4 +10,5 @@ pub mod Bytes
 pub mod Calls
 pub mod Plan
 pub mod Outcome
+pub mod Examples
 pub mod Settle

@@ -1,13 +1,14 @@
 -- What a sheet holds after the whole plan, and what clearing leaves and gives (document 01, 'The plan').
 use Prim.Native.Nat.{ℕ, _+_, _*_, _^_, _≤_, _<_}
 use mathlib.Core.Path.{_≡_}
-use mathlib.Core.List.{List}
+use mathlib.Core.List.{List, [], _∷_, _++_}
 use lib.ListN.{length}
 use lib.IntN.{ℤ, pos}
 use Rattle.definitions.specs.Limits.{cellCount}
+use Rattle.definitions.specs.Arithmetic.{joinTo}
 use Rattle.definitions.specs.Book.{Book}
 use Rattle.definitions.specs.Sheet.{sealedSheet, firstResult, amountCell, flowCell, priceCell, presenceCell, firstScratch}
-use Rattle.definitions.specs.Clearing.{Clearing, Best, Permitted, welfare, poolPrice, priceResidue, presence}
+use Rattle.definitions.specs.Clearing.{Clearing, Best, Permitted, welfare, PoolPrice, missing, present, poolPrice, priceResidue, presence}
 use Rattle.definitions.specs.Machine.{cell, runOf}
 use Rattle.definitions.specs.Answers.{unless}
 use Rattle.definitions.specs.Calls.{sealRefusal}
@@ -30,6 +31,19 @@ pub record Outcome (B : Book) (s : List ℕ) : Type 0 where
   pub prices : (p : ℕ) → p < B .m → cell s (priceCell (B .n) (B .m) p) ≡ priceResidue (poolPrice B (resultOf B s .accepted) p)
   pub presences : (p : ℕ) → p < B .m → cell s (presenceCell (B .n) (B .m) p) ≡ presence (poolPrice B (resultOf B s .accepted) p)
   pub scratch : (c : ℕ) → firstScratch (B .n) (B .m) ≤ c → cell s c ≡ 0
+
+-- a pool's two results as they are opened, its price and its presence; "with none, both cells are 0"
+abbrev pub priceNumbers : PoolPrice → List ℤ
+priceNumbers missing = pos 0 ∷ pos 0 ∷ []
+priceNumbers (present z) = z ∷ pos 1 ∷ []
+
+-- the results of a clearing as they are opened: "n accepted amounts, m × m flows by rows, then for each pool two cells, its price and a
+-- presence cell"
+unfoldable pub clearingResults : Book → Clearing → List ℤ
+clearingResults B c =
+    joinTo (B .n) (λ i. pos (c .accepted i) ∷ [])
+    ++ (joinTo (B .m) (λ a. joinTo (B .m) (λ b. pos (c .flow a b) ∷ []))
+    ++ joinTo (B .m) (λ p. priceNumbers (poolPrice B (c .accepted) p)))
 
 -- demand 3: "at most n × (100 × n + 40 × (m+1)^6) + 10,000"
 abbrev pub orderLimit : (n m : ℕ) → ℕ

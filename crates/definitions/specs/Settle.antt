@@ -7,7 +7,7 @@ use lib.ListN.{length, getD, take, drop}
 use lib.IntN.{ℤ, pos, negsuc, negℤ}
 use lib.Signed.{ltZ}
 use Rattle.definitions.specs.Limits.{cellCount, bidNumbers}
-use Rattle.definitions.specs.Arithmetic.{within}
+use Rattle.definitions.specs.Arithmetic.{joinTo, within}
 use Rattle.definitions.specs.Book.{Book, book}
 use Rattle.definitions.specs.Answers.{Refusal, none, refuse, numberOf, placeOf}
 use Rattle.definitions.specs.Calls.{countsRefusal, sealRefusal, openedResults}
@@ -200,27 +200,22 @@ priceLine pool price presence = priceWord ++ (space ++ (decimal pool ++ (space +
 unfoldable pub welfareLine : ℤ → List ℕ
 welfareLine w = welfareWord ++ (space ++ (decimalZ w ++ newline))
 
--- line 0, line 1, .., line (k - 1), one after another
-unfoldable pub linesTo : (k : ℕ) → (ℕ → List ℕ) → List ℕ
-linesTo zero line = []
-linesTo (suc k) line = linesTo k line ++ line k
-
 -- one of the opened results: n amounts, m × m flows, then price and presence of each pool
 abbrev pub resultAt : List ℤ → ℕ → ℤ
 resultAt results i = getD results i (pos 0)
 
 -- the lines of all bids
 unfoldable pub bidLines : (n : ℕ) → List ℤ → List ℕ
-bidLines n results = linesTo n (λ i. bidLine (i + 1) (resultAt results i))
+bidLines n results = joinTo n (λ i. bidLine (i + 1) (resultAt results i))
 
 -- the lines of all flows above 0, by rows
 unfoldable pub flowLines : (n m : ℕ) → List ℤ → List ℕ
-flowLines n m results = linesTo m (λ a. linesTo m (λ b. flowLine (a + 1) (b + 1) (resultAt results (n + (a * m + b)))))
+flowLines n m results = joinTo m (λ a. joinTo m (λ b. flowLine (a + 1) (b + 1) (resultAt results (n + (a * m + b)))))
 
 -- the lines of all pools
 unfoldable pub priceLines : (n m : ℕ) → List ℤ → List ℕ
 priceLines n m results =
-    linesTo m (λ p. priceLine (p + 1) (resultAt results (n + m * m + 2 * p)) (resultAt results (n + m * m + 2 * p + 1)))
+    joinTo m (λ p. priceLine (p + 1) (resultAt results (n + m * m + 2 * p)) (resultAt results (n + m * m + 2 * p + 1)))
 
 -- the text printed for a cleared book, as for example 2
 unfoldable pub listing : (n m : ℕ) (results : List ℤ) (w : ℤ) → List ℕ

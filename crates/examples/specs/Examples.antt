@@ -7,13 +7,15 @@ use lib.IntN.{ℤ, pos, negℤ}
 use Rattle.definitions.specs.declared.Order.the-variants.{Constant}
 use Rattle.definitions.specs.Limits.{cellCount}
 use Rattle.definitions.specs.Arithmetic.{sumTo, sumZ}
-use Rattle.definitions.specs.Book.{Book, book}
+use Rattle.definitions.specs.Book.{Book}
+use Rattle.definitions.specs.Examples.{bookOne, bookTwo, bookThree, bookFour, bookFive, bookSix, bookSeven}
 use Rattle.definitions.specs.Clearing.{Clearing, Best, Permitted, welfare, PoolPrice, missing, present, poolPrice, highest, sold, bought, inflow, outflow, before}
 use Rattle.definitions.specs.Machine.{times, lessThan}
 use Rattle.definitions.specs.Bytes.{orderBytes, numberBytes, groups}
 use Rattle.definitions.specs.Answers.{none, refuse}
 use Rattle.definitions.specs.Calls.{AcceptedBook, bidRefusal, sealRefusal, bidsRefusal, capacitiesRefusal, rowRefusal, firstFrom}
 use Rattle.laws.specs.Extremes.{minTo}
+use Rattle.laws.specs.AcceptedBook.{bidsOf, bookOf}
 use Rattle.theory.specs.Subsets.{member}
 use Rattle.theory.specs.ClosedForms.{subsetSum, demand, cut, ahead, reach, rank, usedAmount, acceptedAmount}
 use Rattle.theory.specs.SameClearing.{welfare-same}
@@ -56,40 +58,6 @@ cleared B amounts flows prices total h a f p w = record {
   worth = λ c b. welfare-same B (c .accepted) (λ i. acceptedAmount B i) (closed-accepted B h c b) ∙ w;
 }
 
--- ---- the books
-
-unfoldable pub bookOne : Book
-bookOne = book 2 1 (pos 1 ∷ pos 20 ∷ negℤ (pos 10) ∷ pos 1 ∷ pos 30 ∷ pos 6 ∷ []) (pos 0 ∷ [])
-
-unfoldable pub bookTwo : Book
-bookTwo = book 2 2 (pos 1 ∷ pos 20 ∷ negℤ (pos 10) ∷ pos 2 ∷ pos 30 ∷ pos 6 ∷ []) (pos 0 ∷ pos 3 ∷ pos 0 ∷ pos 0 ∷ [])
-
-unfoldable pub bookThree : Book
-bookThree = book 2 1 (pos 1 ∷ pos 25 ∷ negℤ (pos 5) ∷ pos 1 ∷ pos 25 ∷ pos 5 ∷ []) (pos 0 ∷ [])
-
-unfoldable pub bookFour : Book
-bookFour = book 3 1 (pos 1 ∷ pos 10 ∷ negℤ (pos 5) ∷ pos 1 ∷ pos 30 ∷ pos 4 ∷ pos 1 ∷ pos 30 ∷ pos 4 ∷ []) (pos 0 ∷ [])
-
-unfoldable pub bookFive : Book
-bookFive = book 2 1 (pos 1 ∷ negℤ (pos 10) ∷ negℤ (pos 4) ∷ pos 1 ∷ negℤ (pos 20) ∷ pos 4 ∷ []) (pos 0 ∷ [])
-
-unfoldable pub bookSix : Book
-bookSix =
-    book 3 3 (pos 1 ∷ pos 10 ∷ negℤ (pos 9) ∷ pos 2 ∷ pos 15 ∷ pos 4 ∷ pos 3 ∷ pos 40 ∷ pos 6 ∷ [])
-    (pos 0 ∷ pos 5 ∷ pos 0 ∷ pos 0 ∷ pos 0 ∷ pos 2 ∷ pos 0 ∷ pos 0 ∷ pos 0 ∷ [])
-
-unfoldable pub bookSeven : Book
-bookSeven = book 0 2 [] (pos 0 ∷ pos 7 ∷ pos 7 ∷ pos 0 ∷ [])
-
--- k times the bid (1,0,1)
-unfoldable pub bidsOf : ℕ → List ℤ
-bidsOf zero = []
-bidsOf (suc k) = pos 1 ∷ pos 0 ∷ pos 1 ∷ bidsOf k
-
--- one pool, with n such bids
-unfoldable pub bookOf : ℕ → Book
-bookOf n = book n 1 (bidsOf n) (pos 0 ∷ [])
-
 -- ---- the statement
 
 -- "Edges: price 30,000 passes, 30,001 is 5; quantity −65,535 passes, −65,536 is 6; 64 bids pass, 65 are 1."
@@ -98,8 +66,8 @@ pub record Edges : Type 0 where
   pub price-is-5 : bidRefusal 1 (pos 1) (pos 30001) (pos 1) ≡ refuse 5 0
   pub quantity-passes : bidRefusal 1 (pos 1) (pos 0) (negℤ (pos 65535)) ≡ none
   pub quantity-is-6 : bidRefusal 1 (pos 1) (pos 0) (negℤ (pos 65536)) ≡ refuse 6 0
-  pub bids-pass : AcceptedBook (bookOf 64)
-  pub bids-are-1 : sealRefusal (bookOf 65) cellCount ≡ refuse 1 0
+  pub bids-pass : AcceptedBook (bookOf 64 1)
+  pub bids-are-1 : sealRefusal (bookOf 65 1) cellCount ≡ refuse 1 0
 
 pub record ProvedExamples : Type 0 where
   -- "m 1; (1,20,−10), (1,30,6): accepted 6, 6; welfare 60; price 20."

@@ -45,25 +45,6 @@ unfoldable pub maxTo : ℕ → (ℕ → ℕ) → ℕ
 maxTo zero f = 0
 maxTo (suc k) f = max (maxTo k f) (f k)
 
-pub max-ge : (k : ℕ) (f : ℕ → ℕ) (i : ℕ) → i < k → f i ≤ maxTo k f
-unfolding maxTo
-max-ge zero f i l = omega arith
-max-ge (suc k) f i l = go (eq-or-lt-of-le l) (λ l'. max-ge k f i l')
-  where
-    go : (suc i ≡ suc k) ⊎ (suc i < suc k) → (i < k → f i ≤ maxTo k f) → f i ≤ max (maxTo k f) (f k)
-    go (inl p) ih = omega (arith, ap f (suc-inj p))
-    go (inr p) ih = omega (arith, ih (omega arith))
-
-pub max-at : (k : ℕ) (f : ℕ → ℕ) → (maxTo k f ≡ 0) ⊎ ((i : ℕ) × (i < k) × (maxTo k f ≡ f i))
-unfolding maxTo
-max-at zero f = inl refl
-max-at (suc k) f = go (max-at k f) (decLe (maxTo k f) (f k))
-  where
-    go : (maxTo k f ≡ 0) ⊎ ((i : ℕ) × (i < k) × (maxTo k f ≡ f i)) → Dec (maxTo k f ≤ f k) → (max (maxTo k f) (f k) ≡ 0) ⊎ ((i : ℕ) × (i < suc k) × (max (maxTo k f) (f k) ≡ f i))
-    go a (yes q) = inr (k, omega arith, omega arith)
-    go (inl p) (no q) = inl (omega arith)
-    go (inr p) (no q) = inr (p .0, omega arith, omega arith)
-
 pub max-ext : (k : ℕ) (f h : ℕ → ℕ) → ((i : ℕ) → i < k → f i ≡ h i) → maxTo k f ≡ maxTo k h
 unfolding maxTo
 max-ext zero f h e = refl

@@ -43,6 +43,9 @@ pub first-right : (r next : Refusal) → first r next ≡ none → next ≡ none
 first-right none next e = e
 first-right (refuse k x) next e = not-refused e
 
+pub first-both : {r next : Refusal} → r ≡ none → next ≡ none → first r next ≡ none
+first-both {next = next} e f = ap (λ (q : Refusal). first q next) e ∙ f
+
 -- what a slice holds after the call
 pub unless-none : {A : Type 0} (r : Refusal) (given before : A) → isNone r ≡ true → unless r given before ≡ given
 unless-none none given before e = refl
@@ -87,6 +90,9 @@ each-from i (suc k) f h =
     let e : f i ≡ none = (rw (add-zero i) at (h 0 (omega arith))) in
     ap (λ (r : Refusal). first r (firstFrom (suc i) k f)) e
     ∙ each-from (suc i) k f (λ j l. let q : i + suc j ≡ suc i + j = omega arith in rw q at (h (suc j) (omega arith)))
+
+pub none-all : (k : ℕ) (f : ℕ → Refusal) → ((j : ℕ) → j < k → f j ≡ none) → firstFrom 0 k f ≡ none
+none-all k f h = each-from 0 k f (λ j l. rw (zero-add j) (h j l))
 
 -- a refusal by its number is none only for the number 0
 pub numbered-zero : (number place : ℕ) → numbered number place ≡ none → number ≡ 0

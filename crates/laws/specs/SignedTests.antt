@@ -1,29 +1,17 @@
 -- What a test of two signed numbers tells, as the prover hands it over: each number that is no literal is read back from its bits, `toZ w (ofZ w x)`.
--- `x < y` and `y <= x` in the code are ltZ and leZ of the readings. Each law turns the test's flag into that of the other test, of the numbers themselves.
+-- Each law says the same of the numbers themselves.
 use mathlib.Core.Path.{_≡_, refl, sym, ap, _∙_, subst}
 use mathlib.Core.Bool.{Bool, true, false, true≢false}
 use lib.IntN.{ℤ, pos, negsuc, natAbs}
-use lib.Signed.{ltZ, leZ, nonNeg, mag}
+use lib.Signed.{ltZ, nonNeg, mag}
 use Prim.Native.Nat.{_<_, _^_}
 use lib.Dec.{T, ltb}
 use Rattle.definitions.specs.Arithmetic.{eqZ}
-use borrow.Author.Tests.{ltb-true, ltb-false, le-leb, lt-leb, eqb-true, eq-eqb}
+use borrow.Author.Tests.{eqb-true, eq-eqb}
 use mir.Syntax.{Width}
 use mir.Val.{SFits, Fits, toZ, ofZ, bits, hbits}
 use mir.Facts.{toZ-ofZ, fits-natAbs}
 use Rattle.laws.specs.Tests.{is-false}
-
-pub lt-not-le : (a b : ℤ) → ltZ a b ≡ true → leZ b a ≡ false
-lt-not-le (pos a) (pos b) e = lt-leb b a (ltb-true a b e)
-lt-not-le (pos a) (negsuc b) e = sym e
-lt-not-le (negsuc a) (pos b) e = refl
-lt-not-le (negsuc a) (negsuc b) e = lt-leb a b (ltb-true b a e)
-
-pub not-lt-le : (a b : ℤ) → ltZ a b ≡ false → leZ b a ≡ true
-not-lt-le (pos a) (pos b) e = le-leb b a (ltb-false a b e)
-not-lt-le (pos a) (negsuc b) e = refl
-not-lt-le (negsuc a) (pos b) e = sym e
-not-lt-le (negsuc a) (negsuc b) e = le-leb a b (ltb-false b a e)
 
 -- the test's left side, or its right side, is a variable
 pub left : {w : Width} {x : ℤ} (y : ℤ) {t : Bool} → SFits w x → ltZ (toZ w (ofZ w x)) y ≡ t → ltZ x y ≡ t
@@ -31,20 +19,6 @@ left y f e = ap (λ (z : ℤ). ltZ z y) (sym (toZ-ofZ f)) ∙ e
 
 pub right : {w : Width} (x : ℤ) {y : ℤ} {t : Bool} → SFits w y → ltZ x (toZ w (ofZ w y)) ≡ t → ltZ x y ≡ t
 right x f e = ap (λ (z : ℤ). ltZ x z) (sym (toZ-ofZ f)) ∙ e
-
--- `x < y`, `y` a literal, taken and not taken
-pub below : {w : Width} {x : ℤ} (y : ℤ) → SFits w x → ltZ (toZ w (ofZ w x)) y ≡ true → leZ y x ≡ false
-below {x = x} y f e = lt-not-le x y (left y f e)
-
-pub not-below : {w : Width} {x : ℤ} (y : ℤ) → SFits w x → ltZ (toZ w (ofZ w x)) y ≡ false → leZ y x ≡ true
-not-below {x = x} y f e = not-lt-le x y (left y f e)
-
--- `x < y`, `x` a literal
-pub above : {w : Width} (x : ℤ) {y : ℤ} → SFits w y → ltZ x (toZ w (ofZ w y)) ≡ true → leZ y x ≡ false
-above x {y = y} f e = lt-not-le x y (right x f e)
-
-pub not-above : {w : Width} (x : ℤ) {y : ℤ} → SFits w y → ltZ x (toZ w (ofZ w y)) ≡ false → leZ y x ≡ true
-not-above x {y = y} f e = not-lt-le x y (right x f e)
 
 -- ---- equality: the code compares the bits
 eqZ-refl : (x : ℤ) → eqZ x x ≡ true
