@@ -1,11 +1,12 @@
--- An order by its numbers, and what its kind makes of them; a step is one store of that (one-store). The last part says when an order runs.
+-- An order by its numbers, and what its kind makes of them: a step is one store of that (one-store), and an order that runs names cells of the sheet (runnable-parts).
 use Prim.Native.Nat.{ℕ, zero, suc, _<_}
 use mathlib.Core.Path.{_≡_, refl}
-use mathlib.Core.Bool.{Bool, true, false, cond, _&&_}
+use mathlib.Core.Bool.{true, _&&_}
 use mathlib.Core.List.{List}
+use native.Mathlib.Omega.{arith}
 use lib.Dec.{eqb, ltb}
 use lib.ListN.{length, set}
-use borrow.Author.Tests.{eqb-true, ltb-true, eq-eqb, lt-ltb}
+use borrow.Author.Tests.{eqb-true, ltb-true}
 use Rattle.definitions.specs.declared.Order.{Order}
 use Rattle.definitions.specs.declared.Order.the-variants.{Constant, Sum, Difference, Product, Less, Equal}
 use Rattle.definitions.specs.Limits.{cellCount, modulus}
@@ -13,16 +14,17 @@ use Rattle.definitions.specs.Answers.{kindOf}
 use Rattle.definitions.specs.Machine.{cell, plus, minus, times, lessThan, sameAs, stepOf}
 use Rattle.laws.specs.Tests.{and-left, and-right}
 use Rattle.machine.specs.declared.Parts.{Parts}
+use Rattle.machine.specs.Step.{constantRuns, cellsRun, runnable, cells-run}
 
 -- what an order of a kind makes of its constant and of two cells' contents
-abbrev pub resultOf : (kind k x y : ℕ) → ℕ
-resultOf zero k x y = k
-resultOf (suc zero) k x y = plus x y
-resultOf (suc (suc zero)) k x y = minus x y
-resultOf (suc (suc (suc zero))) k x y = times x y
-resultOf (suc (suc (suc (suc zero)))) k x y = lessThan x y
-resultOf (suc (suc (suc (suc (suc zero))))) k x y = sameAs x y
-resultOf (suc (suc (suc (suc (suc (suc kind)))))) k x y = 0
+abbrev pub kindResult : (kind k x y : ℕ) → ℕ
+kindResult zero k x y = k
+kindResult (suc zero) k x y = plus x y
+kindResult (suc (suc zero)) k x y = minus x y
+kindResult (suc (suc (suc zero))) k x y = times x y
+kindResult (suc (suc (suc (suc zero)))) k x y = lessThan x y
+kindResult (suc (suc (suc (suc (suc zero))))) k x y = sameAs x y
+kindResult (suc (suc (suc (suc (suc (suc kind)))))) k x y = 0
 
 -- an order's numbers: its kind, its target, and its constant or its two cells, 0 where it has none
 abbrev pub partsOf : Order → Parts
@@ -35,7 +37,7 @@ partsOf (Equal d a b) = record { kind = kindOf (Equal d a b); d = d; k = 0; a = 
 
 -- the sheet after one store of what they make
 abbrev pub store : List ℕ → Parts → List ℕ
-store s q = set s (q .d) (resultOf (q .kind) (q .k) (cell s (q .a)) (cell s (q .b)))
+store s q = set s (q .d) (kindResult (q .kind) (q .k) (cell s (q .a)) (cell s (q .b)))
 
 pub one-store : (s : List ℕ) (o : Order) → stepOf s o ≡ store s (partsOf o)
 one-store s (Constant d k) = refl
@@ -45,51 +47,42 @@ one-store s (Product d a b) = refl
 one-store s (Less d a b) = refl
 one-store s (Equal d a b) = refl
 
--- the sheet has 4,096 cells, the order's cells are among them, and the two cells read hold residues
-abbrev pub runs : List ℕ → Parts → Bool
-runs s q = eqb (length s) cellCount && (ltb (q .d) cellCount && (ltb (q .a) cellCount && (ltb (q .b) cellCount && (ltb (cell s (q .a)) modulus && ltb (cell s (q .b)) modulus))))
+-- ---- what an order that runs has for parts
 
--- an order that can run on a sheet
-abbrev pub runnable : List ℕ → Order → Bool
-runnable s o = runs s (partsOf o)
-
--- the sheet after an order; an order that cannot run on it leaves it as it is
-unfoldable pub stepped : List ℕ → Order → List ℕ
-stepped s o = cond (runnable s o) (stepOf s o) s
-
-pub stepped-run : (s : List ℕ) (o : Order) → runnable s o ≡ true → stepped s o ≡ stepOf s o
-unfolding stepped
-stepped-run s o e = rw e refl
-
-pub stepped-left : (s : List ℕ) (o : Order) → runnable s o ≡ false → stepped s o ≡ s
-unfolding stepped
-stepped-left s o e = rw e refl
-
--- what the tests of `runs` say
 pub record Runs (s : List ℕ) (q : Parts) : Type 0 where
   pub cells : length s ≡ cellCount
   pub target : q .d < cellCount
   pub left : q .a < cellCount
   pub right : q .b < cellCount
-  pub first : cell s (q .a) < modulus
-  pub second : cell s (q .b) < modulus
+  pub residues : 0 < q .kind → (cell s (q .a) < modulus) × (cell s (q .b) < modulus)
 
-pub runs-parts : (s : List ℕ) (q : Parts) → runs s q ≡ true → Runs s q
-runs-parts s q e₁ =
-    let e₂ = and-right (eqb (length s) cellCount) _ e₁ in
-    let e₃ = and-right (ltb (q .d) cellCount) _ e₂ in
-    let e₄ = and-right (ltb (q .a) cellCount) _ e₃ in
-    let e₅ = and-right (ltb (q .b) cellCount) _ e₄ in
-    record {
-      cells = eqb-true _ _ (and-left (eqb (length s) cellCount) _ e₁);
-      target = ltb-true _ _ (and-left (ltb (q .d) cellCount) _ e₂);
-      left = ltb-true _ _ (and-left (ltb (q .a) cellCount) _ e₃);
-      right = ltb-true _ _ (and-left (ltb (q .b) cellCount) _ e₄);
-      first = ltb-true _ _ (and-left (ltb (cell s (q .a)) modulus) _ e₅);
-      second = ltb-true _ _ (and-right (ltb (cell s (q .a)) modulus) _ e₅);
-    }
+module _ (s : List ℕ) where
+  constant-parts : (d k : ℕ) → runnable s (Constant d k) ≡ true → Runs s (partsOf (Constant d k))
+  constant-parts d k e =
+      let f = and-right (eqb (length s) cellCount) (constantRuns d k) e in
+      record {
+        cells = eqb-true _ _ (and-left (eqb (length s) cellCount) _ e);
+        target = ltb-true _ _ (and-left (ltb d cellCount) _ f);
+        left = omega arith;
+        right = omega arith;
+        residues = λ h. absurd (let x : ⊥ = omega arith in x);
+      }
 
-pub parts-run : (s : List ℕ) (q : Parts) → Runs s q → runs s q ≡ true
-parts-run s q h =
-    rw (eq-eqb (length s) cellCount (h .cells), lt-ltb (q .d) cellCount (h .target), lt-ltb (q .a) cellCount (h .left), lt-ltb (q .b) cellCount (h .right), lt-ltb (cell s (q .a)) modulus (h .first), lt-ltb (cell s (q .b)) modulus (h .second))
-    refl
+  cells-parts : (kind d a b : ℕ) → (eqb (length s) cellCount && cellsRun s d a b) ≡ true → Runs s (record { kind = kind; d = d; k = 0; a = a; b = b })
+  cells-parts kind d a b e =
+      let r = cells-run s d a b (and-right (eqb (length s) cellCount) (cellsRun s d a b) e) in
+      record {
+        cells = eqb-true _ _ (and-left (eqb (length s) cellCount) _ e);
+        target = r .cells .0;
+        left = r .cells .1;
+        right = r .cells .2;
+        residues = λ _. (r .first, r .second);
+      }
+
+  pub runnable-parts : (o : Order) → runnable s o ≡ true → Runs s (partsOf o)
+  runnable-parts (Constant d k) e = constant-parts d k e
+  runnable-parts (Sum d a b) e = cells-parts _ d a b e
+  runnable-parts (Difference d a b) e = cells-parts _ d a b e
+  runnable-parts (Product d a b) e = cells-parts _ d a b e
+  runnable-parts (Less d a b) e = cells-parts _ d a b e
+  runnable-parts (Equal d a b) e = cells-parts _ d a b e

@@ -16,9 +16,13 @@ use Rattle.definitions.specs.declared.Order.{Order}
 use Rattle.definitions.specs.declared.Order.the-variants.{Constant, Sum, Difference, Product, Less, Equal}
 use Rattle.definitions.specs.Machine.{cell, IsSheet, WellFormed, AllWellFormed, stepOf, runOf}
 use Rattle.machine.specs.declared.Parts.{Parts}
-use Rattle.machine.specs.Parts.{resultOf, partsOf, one-store, stepped, stepped-run, parts-run}
+use Rattle.machine.specs.Step.{stepped, stepped-run, sheet-runs}
+use Rattle.machine.specs.Parts.{kindResult, partsOf, one-store}
 
 -- ---- One order
+
+pub stepped-is : (s : List ℕ) (o : Order) → IsSheet s → WellFormed o → stepped s o ≡ stepOf s o
+stepped-is s o h w = stepped-run s o (sheet-runs s o h w)
 
 -- the numbers of a well-formed order: cells of the sheet, and a constant below p
 pub record PartsWithin (q : Parts) : Type 0 where
@@ -35,27 +39,12 @@ parts-within (Product d a b) h = record { target = h .0; left = h .1; right = h 
 parts-within (Less d a b) h = record { target = h .0; left = h .1; right = h .2; constant = omega arith }
 parts-within (Equal d a b) h = record { target = h .0; left = h .1; right = h .2; constant = omega arith }
 
--- on a sheet every order of the machine runs
-pub stepped-is : (s : List ℕ) (o : Order) → IsSheet s → WellFormed o → stepped s o ≡ stepOf s o
-stepped-is s o h w =
-    let p = parts-within o w in
-    stepped-run s o
-    (parts-run s (partsOf o)
-    (record {
-      cells = h .cells;
-      target = p .target;
-      left = p .left;
-      right = p .right;
-      first = h .below (partsOf o .a);
-      second = h .below (partsOf o .b);
-    }))
-
 -- every result is below p
 bit-below : (t : Bool) → cond t 1 0 < modulus
 bit-below true = omega arith
 bit-below false = omega arith
 
-pub result-below : (kind k x y : ℕ) → k < modulus → resultOf kind k x y < modulus
+pub result-below : (kind k x y : ℕ) → k < modulus → kindResult kind k x y < modulus
 result-below zero k x y h = h
 result-below (suc zero) k x y h = mod-lt _ (omega arith)
 result-below (suc (suc zero)) k x y h = mod-lt _ (omega arith)

@@ -2,9 +2,11 @@
 ghost use mathlib.Core.Path.{_≡_};
 ghost use mathlib.Core.Bool.{true};
 ghost use Prim.Native.Nat.{_<_};
-ghost use Rattle.definitions.specs.Limits.{modulus};
+ghost use lib.ListN.{length};
+ghost use Rattle.definitions.specs.Limits.{cellCount, modulus};
 ghost use Rattle.definitions.specs.Machine.{stepOf, plus, minus, times, lessThan, sameAs};
-ghost use Rattle.machine.specs.Parts.{partsOf, resultOf, runnable, stepped};
+ghost use Rattle.machine.specs.Step.{holdsResidue, constantRuns, cellsRun, runnable, stepped};
+ghost use Rattle.machine.specs.Parts.{partsOf, kindResult};
 use definitions::Limits;
 use definitions::Order;
 use definitions::kind;
@@ -51,10 +53,10 @@ fn equal(x: u32, y: u32) -> u32
     0
 }
 
-// What an order of a kind makes of its constant and of two cells; no order has an unknown kind.
+// What an order of a kind makes of its constant or of two residues; no order has an unknown kind.
 fn result(kind: u32, k: u32, x: u32, y: u32) -> u32
-    requires { ⌜ (x < modulus) × (y < modulus) ⌝ }
-    ensures { λ r. ⌜ r ≡ resultOf kind k x y ⌝ }
+    requires { ⌜ (0 < kind → (x < modulus) × (y < modulus)) ⌝ }
+    ensures { λ r. ⌜ r ≡ kindResult kind k x y ⌝ }
 {
     match kind {
         0 => k,
@@ -67,7 +69,7 @@ fn result(kind: u32, k: u32, x: u32, y: u32) -> u32
     }
 }
 
-// An order's numbers. A constant reads no cell: a and b are then 0; for other kinds k is 0.
+// An order's numbers. A constant makes nothing of a cell: a and b are then 0; for other kinds k is 0.
 struct Parts {
     kind: u32,
     d: usize,
@@ -126,31 +128,56 @@ fn parts_of(order: Order) -> Parts
     }
 }
 
-// Whether the sheet has 4,096 cells, the order's cells are among them, and the two cells read hold residues.
+// Whether a cell is one of the sheet's and holds a residue.
+fn holds_residue(sheet: &[u32], c: usize) -> bool
+    requires { ⌜ length (now sheet) ≡ cellCount ⌝ }
+    ensures { λ r. ⌜ r ≡ holdsResidue (now (sheet .entry)) c ⌝ }
+{
+    if Limits::CELLS <= c {
+        return false;
+    }
+    sheet[c] < Limits::MODULUS
+}
+
+// Order 0 runs if d is a cell and k is below p: it reads no cell.
+fn constant_runs(d: usize, k: u32) -> bool
+    ensures { λ r. ⌜ r ≡ constantRuns d k ⌝ }
+{
+    if Limits::CELLS <= d {
+        return false;
+    }
+    k < Limits::MODULUS
+}
+
+// Orders 1 to 5 run if d, a and b are cells, and a and b hold residues.
+fn cells_run(sheet: &[u32], d: usize, a: usize, b: usize) -> bool
+    requires { ⌜ length (now sheet) ≡ cellCount ⌝ }
+    ensures { λ r. ⌜ r ≡ cellsRun (now (sheet .entry)) d a b ⌝ }
+{
+    if Limits::CELLS <= d {
+        return false;
+    }
+    if holds_residue(sheet, a) {
+        return holds_residue(sheet, b);
+    }
+    false
+}
+
+// Whether the sheet has 4,096 cells, the order is the machine's, and the cells that it reads hold residues.
 fn is_runnable(sheet: &[u32], order: Order) -> bool
     ensures { λ r. ⌜ r ≡ runnable (now (sheet .entry)) order ⌝ }
 {
-    let parts = parts_of(order);
-    let a = parts.a;
-    let b = parts.b;
     if sheet.len() != Limits::CELLS {
         return false;
     }
-    if Limits::CELLS <= parts.d {
-        return false;
+    match order {
+        Order::Constant { d, k } => constant_runs(d, k),
+        Order::Sum { d, a, b } => cells_run(sheet, d, a, b),
+        Order::Difference { d, a, b } => cells_run(sheet, d, a, b),
+        Order::Product { d, a, b } => cells_run(sheet, d, a, b),
+        Order::Less { d, a, b } => cells_run(sheet, d, a, b),
+        Order::Equal { d, a, b } => cells_run(sheet, d, a, b),
     }
-    if Limits::CELLS <= a {
-        return false;
-    }
-    if Limits::CELLS <= b {
-        return false;
-    }
-    let x = sheet[a];
-    if Limits::MODULUS <= x {
-        return false;
-    }
-    let y = sheet[b];
-    y < Limits::MODULUS
 }
 
 // One order on the sheet: both cells are read before the target is written.
@@ -167,7 +194,8 @@ fn step_within(sheet: &mut [u32], order: Order)
     sheet[d] = result(parts.kind, parts.k, x, y);
 }
 
-// One order on the sheet; an order that cannot run on it leaves it as lent.
+// One order on a sheet of 4,096 cells: it runs if it is the machine's (its cells below 4,096, its constant below p) and
+// the cells that it reads hold residues. Any other order, and any on another sheet, leaves the sheet as it is.
 pub fn step(sheet: &mut [u32], order: Order)
     ensures { λ _. ⌜ now (sheet .exit) ≡ stepped (now (sheet .entry)) order ⌝ }
 {

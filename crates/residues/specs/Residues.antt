@@ -1,11 +1,11 @@
--- A whole number of size at most 1,073,741,823 is a residue below p and is read back from it; the last law gives that no two residues read alike.
+-- A whole number of size at most 1,073,741,823 has a residue below p (residue-below) and is read back from it (reading-residue).
 use Prim.Native.Nat.{ℕ, suc, _-_, _<_, _≤_}
-use mathlib.Core.Path.{_≡_, refl, sym, ap, _∙_}
-use mathlib.Core.Bool.{Bool, true, false, cond}
+use mathlib.Core.Path.{_≡_, refl, ap, _∙_}
+use mathlib.Core.Bool.{cond}
 use native.Mathlib.Omega.{arith}
 use lib.Dec.{ltb}
 use lib.IntN.{ℤ, pos, negsuc, _-ℤ_, natAbs}
-use borrow.Author.Tests.{lt-ltb, le-ltb, ltb-true, ltb-false}
+use borrow.Author.Tests.{lt-ltb, le-ltb}
 use Rattle.definitions.specs.Limits.{modulus, greatestPositive}
 use Rattle.definitions.specs.Arithmetic.{reading, residue}
 
@@ -24,7 +24,7 @@ lowered x h = simp (lt-ltb x modulus h)
 pub reads-itself : (x : ℕ) → x ≤ greatestPositive → reading x ≡ pos x
 reads-itself x h = simp (le-ltb greatestPositive x h)
 
-pub reads-lowered : (x : ℕ) → greatestPositive < x → x < modulus → reading x ≡ negsuc (modulus - suc x)
+reads-lowered : (x : ℕ) → greatestPositive < x → x < modulus → reading x ≡ negsuc (modulus - suc x)
 reads-lowered x h k = simp (lt-ltb greatestPositive x h) (lowered x k)
 
 pub residue-below : (z : ℤ) → natAbs z ≤ greatestPositive → residue z < modulus
@@ -36,21 +36,3 @@ reading-residue (pos v) h = reads-itself v h
 reading-residue (negsuc v) h =
     reads-lowered (modulus - suc v) (omega arith) (omega arith)
     ∙ ap negsuc (let q : modulus - suc (modulus - suc v) ≡ v = omega arith in q)
-
-pub residue-reading : (x : ℕ) → x < modulus → residue (reading x) ≡ x
-residue-reading x h = go (ltb greatestPositive x) refl
-  where
-    go : (t : Bool) → ltb greatestPositive x ≡ t → residue (reading x) ≡ x
-    go true e = ap residue (reads-lowered x (ltb-true _ _ e) h) ∙ (let q : modulus - suc (modulus - suc x) ≡ x = omega arith in q)
-    go false e = ap residue (reads-itself x (ltb-false _ _ e))
-
--- a reading's size
-pub reading-size : (x : ℕ) → x < modulus → natAbs (reading x) ≤ greatestPositive
-reading-size x h = go (ltb greatestPositive x) refl
-  where
-    go : (t : Bool) → ltb greatestPositive x ≡ t → natAbs (reading x) ≤ greatestPositive
-    go true e = let k : greatestPositive < x = ltb-true _ _ e in omega (arith, ap natAbs (reads-lowered x k h))
-    go false e = let k : x ≤ greatestPositive = ltb-false _ _ e in omega (arith, ap natAbs (reads-itself x k))
-
-pub reading-injective : (x y : ℕ) → x < modulus → y < modulus → reading x ≡ reading y → x ≡ y
-reading-injective x y h k e = sym (residue-reading x h) ∙ ap residue e ∙ residue-reading y k

@@ -4,8 +4,9 @@ ghost use Rattle.definitions.specs.Arithmetic as arithmetic;
 ghost use Rattle.residues.specs.Residues.{read};
 use definitions::Limits;
 
-// A number as a cell holds it: a negative one is raised by p. The least i32 stays below 0 even then and becomes 0;
-// no accepted book holds it.
+// A number as a cell holds it: a negative one is raised by p. For all numbers of less than p in size that is a residue.
+// The least i32 stays below 0 even when raised and becomes 0; the greatest is p, which is no residue, and stays p.
+// No accepted book holds either.
 pub fn residue(v: i32) -> u32
     ensures { λ r. ⌜ r ≡ arithmetic.residue v ⌝ }
 {

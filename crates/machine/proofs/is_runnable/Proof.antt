@@ -1,76 +1,97 @@
--- `is_runnable` meets its contract: each test that fails refutes `Runs`, and where all but the last hold, the last decides.
+-- `is_runnable` meets its contract: on 4,096 cells each arm is told the order's case, and tests what `runs` tests in that case.
 use mathlib.Core.Path.{_≡_, refl, sym, ap, _∙_}
-use mathlib.Core.Bool.{false}
-use native.Mathlib.Omega.{arith}
-use borrow.Author.Tests.{eq-eqb, lt-ltb}
-use borrow.Author.Needs.{needs}
-use lib.Dec.{ltb}
 use lib.ListN.{length}
-use Rattle.definitions.specs.Limits.{cellCount, modulus}
-use Rattle.definitions.specs.Machine.{cell}
-use Rattle.laws.specs.Tests.{is-false}
-use Rattle.machine.specs.Parts.{runnable, runs, Runs, runs-parts}
+use borrow.Author.Needs.{needs}
+use borrow.Author.Tests.{eq-eqb, ne-eqb}
+use Rattle.definitions.specs.declared.Order.{Order}
+use Rattle.definitions.specs.Limits.{cellCount}
+use Rattle.machine.specs.Step.{runs, runnable}
 use Rattle.machine.proofs.is_runnable.Statement.{statement}
 use Rattle.machine.proofs.is_runnable.Tie as tie
 
-refuted : (c : tie.After-parts-of) → (Runs (c .before .before .args .sheet .now) (c .parts-of .result) → ⊥) → false ≡ runnable (c .before .before .args .sheet .now) (c .before .before .args .order)
-refuted c f =
+told : (c : tie.Else1) (was : Order) → c .before .before .args .order ≡ was → runs (c .before .before .args .sheet .now) was ≡ runnable (c .before .before .args .sheet .now) (c .before .before .args .order)
+told c was e =
     let s = c .before .before .args .sheet .now in
-    sym (is-false (runs s (c .parts-of .result)) (λ e. f (runs-parts s (c .parts-of .result) e)))
-    ∙ ap (runs s) (c .parts-of .ensures)
-
-parts-of-requires : tie.Need-parts-of-requires
-parts-of-requires c κs = search needs
+    let q : runs s was ≡ runnable s was = rw (eq-eqb (length s) cellCount (c .if1 .left)) refl in
+    q ∙ sym (ap (runnable s) e)
 
 returns : tie.Need-returns
-returns c = refuted (c .before) (λ r. c .if1 .taken (r .cells))
+returns c = simp (ne-eqb (length (c .before .before .args .sheet .now)) cellCount (c .if1 .taken))
+
+enum-known-order : tie.Need-enum-known-order
+enum-known-order c = search needs
+
+constant-runs-requires : tie.Need-constant-runs-requires
+constant-runs-requires c κs = search needs
+
+enum-known-order-2 : tie.Need-enum-known-order-2
+enum-known-order-2 c = search needs
+
+cells-run-requires : tie.Need-cells-run-requires
+cells-run-requires c κs = search needs
+
+enum-known-order-3 : tie.Need-enum-known-order-3
+enum-known-order-3 c = search needs
+
+cells-run-requires-2 : tie.Need-cells-run-requires-2
+cells-run-requires-2 c κs = search needs
+
+enum-known-order-4 : tie.Need-enum-known-order-4
+enum-known-order-4 c = search needs
+
+cells-run-requires-3 : tie.Need-cells-run-requires-3
+cells-run-requires-3 c κs = search needs
+
+enum-known-order-5 : tie.Need-enum-known-order-5
+enum-known-order-5 c = search needs
+
+cells-run-requires-4 : tie.Need-cells-run-requires-4
+cells-run-requires-4 c κs = search needs
+
+enum-known-order-6 : tie.Need-enum-known-order-6
+enum-known-order-6 c = search needs
+
+cells-run-requires-5 : tie.Need-cells-run-requires-5
+cells-run-requires-5 c κs = search needs
 
 returns-2 : tie.Need-returns-2
-returns-2 c = refuted (c .before .before .before) (λ r. omega (arith, r .target, c .if2 .taken))
+returns-2 c = c .constant-runs .ensures ∙ told (c .before .before .before .before) _ (c .before .before .order .given .1)
 
 returns-3 : tie.Need-returns-3
-returns-3 c = refuted (c .before .before .before .before) (λ r. omega (arith, r .left, c .if3 .taken))
+returns-3 c = c .cells-run .ensures ∙ told (c .before .before .before .before) _ (c .before .before .order2 .given .1)
 
 returns-4 : tie.Need-returns-4
-returns-4 c = refuted (c .before .before .before .before .before) (λ r. omega (arith, r .right, c .if4 .taken))
-
-mul-x : tie.Need-mul-x
-mul-x c = search needs
-
-shared-slice-read-x : tie.Need-shared-slice-read-x
-shared-slice-read-x c = search needs
+returns-4 c = c .cells-run2 .ensures ∙ told (c .before .before .before .before) _ (c .before .before .order3 .given .1)
 
 returns-5 : tie.Need-returns-5
-returns-5 c = refuted (c .before .before .before .before .before .before .before) (λ r. omega (arith, r .first, c .if5 .taken))
-
-mul-y : tie.Need-mul-y
-mul-y c = search needs
-
-shared-slice-read-y : tie.Need-shared-slice-read-y
-shared-slice-read-y c = search needs
+returns-5 c = c .cells-run3 .ensures ∙ told (c .before .before .before .before) _ (c .before .before .order4 .given .1)
 
 returns-6 : tie.Need-returns-6
-returns-6 c =
-    let p = c .before .before .before .before .before .before .before .before in
-    let s = p .before .before .args .sheet .now in
-    let q = p .parts-of .result in
-    let e : ltb (cell s (q .b)) modulus ≡ runs s q =
-    rw (eq-eqb (length s) cellCount (c .before .before .before .before .before .before .before .if1 .left), lt-ltb (q .d) cellCount (c .before .before .before .before .before .if2 .left), lt-ltb (q .a) cellCount (c .before .before .before .before .if3 .left), lt-ltb (q .b) cellCount (c .before .before .before .if4 .left), lt-ltb (cell s (q .a)) modulus (c .before .if5 .left))
-    refl
-    in e ∙ ap (runs s) (p .parts-of .ensures)
+returns-6 c = c .cells-run4 .ensures ∙ told (c .before .before .before .before) _ (c .before .before .order5 .given .1)
+
+returns-7 : tie.Need-returns-7
+returns-7 c = c .cells-run5 .ensures ∙ told (c .before .before .before .before) _ (c .before .before .order6 .given .1)
 
 pub is-runnable-spec : {M : Type 1} → statement M
 is-runnable-spec =
     tie.close
     (tie.spec
-    parts-of-requires
     returns
+    enum-known-order
+    constant-runs-requires
+    enum-known-order-2
+    cells-run-requires
+    enum-known-order-3
+    cells-run-requires-2
+    enum-known-order-4
+    cells-run-requires-3
+    enum-known-order-5
+    cells-run-requires-4
+    enum-known-order-6
+    cells-run-requires-5
     returns-2
     returns-3
     returns-4
-    mul-x
-    shared-slice-read-x
     returns-5
-    mul-y
-    shared-slice-read-y
-    returns-6)
+    returns-6
+    returns-7)

@@ -1,5 +1,6 @@
 -- `result` meets its contract: each arm of the match is told its kind, the last one that the kind is none of the others.
 use mathlib.Core.Path.{_∙_}
+use native.Mathlib.Omega.{arith}
 use borrow.Author.Needs.{needs}
 use Rattle.machine.proofs.KindResult.{known, unknown}
 use Rattle.machine.proofs.result.Statement.{statement}
@@ -9,13 +10,13 @@ sum-requires : tie.Need-sum-requires
 sum-requires c κs = search needs
 
 difference-requires : tie.Need-difference-requires
-difference-requires c κs = search needs
+difference-requires c κs = c .before .pre (omega (arith, c .match .keys3)) .1
 
 product-requires : tie.Need-product-requires
 product-requires c κs = search needs
 
 less-requires : tie.Need-less-requires
-less-requires c κs = search needs
+less-requires c κs = c .before .pre (omega (arith, c .match .keys5))
 
 equal-requires : tie.Need-equal-requires
 equal-requires c κs = search needs

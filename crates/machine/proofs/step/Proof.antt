@@ -1,7 +1,7 @@
 -- `step` meets its contract: the order runs exactly if `is_runnable` says so.
 use mathlib.Core.Path.{sym, _∙_}
 use borrow.Author.Needs.{needs}
-use Rattle.machine.specs.Parts.{stepped-run, stepped-left}
+use Rattle.machine.specs.Step.{stepped-run, stepped-left}
 use Rattle.machine.proofs.step.Statement.{statement}
 use Rattle.machine.proofs.step.Tie as tie
 

@@ -34,7 +34,7 @@ returns-2 c =
     let f : SFits w32 (toZ w32 (c .before .before .args .x) -ℤ pos modulus) = sub-result c in
     toZ-ofZ f
     ∙ ap (λ (z : ℤ). z -ℤ pos modulus) (itself (c .before))
-    ∙ rw (lt-ltb (c .before .before .args .x) modulus (c .before .if1 .left), lt-ltb greatestPositive (c .before .before .args .x) (c .if2 .taken)) refl
+    ∙ rw (lt-ltb (c .before .before .args .x) modulus (c .before .if1 .left), lt-ltb greatestPositive (c .before .before .args .x) (omega (arith, c .before .if1 .left, c .if2 .taken))) refl
 
 cast-result-3 : tie.Need-cast-result-3
 cast-result-3 c = search needs
@@ -42,7 +42,7 @@ cast-result-3 c = search needs
 returns-3 : tie.Need-returns-3
 returns-3 c =
     itself (c .before)
-    ∙ rw (lt-ltb (c .before .before .args .x) modulus (c .before .if1 .left), le-ltb greatestPositive (c .before .before .args .x) (c .if2 .left)) refl
+    ∙ rw (lt-ltb (c .before .before .args .x) modulus (c .before .if1 .left), le-ltb greatestPositive (c .before .before .args .x) (omega (arith, c .if2 .left))) refl
 
 pub reading-spec : {M : Type 1} → statement M
 reading-spec =
