@@ -10,7 +10,6 @@ use lib.ListN.{length, drop, getD, drop-of-length-le}
 use lib.Seq.{drop-cons}
 use borrow.Author.Tests.{lt-ltb, le-ltb}
 use Rattle.definitions.specs.Bytes.{groups, short, bad, lastGroup, moreGroups, readGroups}
-use Rattle.codec.specs.Groups.{groupsLimit}
 
 -- ---- reading
 
@@ -28,17 +27,6 @@ pub a-byte : (g : ℕ) (first : Bool) (s : List ℕ) (at : ℕ) → (g ≡ 0 →
 unfolding readGroups
 a-byte zero first s at e h = absurd (e refl)
 a-byte (suc g) first s at e h = rw (drop-cons s at 0 h, sub-one, add-one) refl
-
--- a number of at most five groups is far below 2^64
-pub limit-small : (g : ℕ) → g ≤ 5 → groupsLimit g ≤ 34359738368
-unfolding groupsLimit
-limit-small zero h = omega arith
-limit-small (suc zero) h = omega arith
-limit-small (suc (suc zero)) h = omega arith
-limit-small (suc (suc (suc zero))) h = omega arith
-limit-small (suc (suc (suc (suc zero)))) h = omega arith
-limit-small (suc (suc (suc (suc (suc zero))))) h = omega arith
-limit-small (suc (suc (suc (suc (suc (suc g)))))) h = absurd (let x : ⊥ = omega arith in x)
 
 -- ---- writing
 

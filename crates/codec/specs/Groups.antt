@@ -25,6 +25,12 @@ unfolding groupsLimit
 limit-positive zero = omega arith
 limit-positive (suc g) = omega (arith, limit-positive g)
 
+pub limit-grows : (g h : ℕ) → g ≤ h → groupsLimit g ≤ groupsLimit h
+unfolding groupsLimit
+limit-grows zero h l = omega (arith, limit-positive h)
+limit-grows (suc g) zero l = absurd (let x : ⊥ = omega arith in x)
+limit-grows (suc g) (suc h) l = omega (arith, limit-grows g h (omega arith))
+
 -- ---- how many bytes a number has, and that they are bytes
 
 pub at-most : (g v : ℕ) → length (groups g v) ≤ g
@@ -36,9 +42,10 @@ at-most (suc g) v = go (ltb v 128) (at-most g (v / 128))
     go true h = omega arith
     go false h = omega arith
 
-pub at-least-one : (g v : ℕ) → 1 ≤ length (groups (suc g) v)
+pub at-least-one : (g v : ℕ) → 0 < g → 1 ≤ length (groups g v)
 unfolding groups
-at-least-one g v = go (ltb v 128)
+at-least-one zero v h = absurd (let x : ⊥ = omega arith in x)
+at-least-one (suc g) v h = go (ltb v 128)
   where
     go : (t : Bool) → 1 ≤ length (cond t (v ∷ []) ((v % 128 + 128) ∷ groups g (v / 128)))
     go true = omega arith
@@ -89,9 +96,10 @@ unfolding groupsLimit
 later-read-written zero v rest h k = absurd (omega arith)
 later-read-written (suc g) v rest h k = one-group g false v rest (simp (lt-ltb 0 v k)) (λ b. later-read-written g (v / 128) rest (omega arith) (omega arith))
 
-pub read-written : (g v : ℕ) (rest : List ℕ) → v < groupsLimit (suc g) → readGroups (suc g) true (groups (suc g) v ++ rest) ≡ number v (length (groups (suc g) v))
+pub read-written : (g v : ℕ) (rest : List ℕ) → 0 < g → v < groupsLimit g → readGroups g true (groups g v ++ rest) ≡ number v (length (groups g v))
 unfolding groupsLimit
-read-written g v rest h = one-group g true v rest refl (λ b. later-read-written g (v / 128) rest (omega arith) (omega arith))
+read-written zero v rest k h = absurd (let x : ⊥ = omega arith in x)
+read-written (suc g) v rest k h = one-group g true v rest refl (λ b. later-read-written g (v / 128) rest (omega arith) (omega arith))
 
 -- a number too big for g groups leaves no last group
 pub too-big : (g : ℕ) (first : Bool) (v : ℕ) (rest : List ℕ) → groupsLimit g ≤ v → readGroups g first (groups g v ++ rest) ≡ bad

@@ -12,8 +12,10 @@ use borrow.Author.Tests.{lt-ltb, le-ltb, ne-eqb}
 use Rattle.definitions.specs.declared.Order.{Order}
 use Rattle.definitions.specs.declared.Order.the-variants.{Constant, Sum, Difference, Product, Less, Equal}
 use Rattle.definitions.specs.Limits.{cellCount, modulus}
+use Rattle.definitions.specs.Answers.{kindOf}
 use Rattle.definitions.specs.Machine.{WellFormed, ThreeCells}
-use Rattle.definitions.specs.Bytes.{numberLimit, numberBytes, numbersBytes, numbersOf, orderBytes, Number, short, bad, number, readGroups, Read, fault, found, placed, numberAt, below, kindAt, cellAt, constantAt, andThen, cellsOrder, lastAt, restAt, targetAt, orderAt}
+use Rattle.definitions.specs.Bytes as bytes
+use Rattle.definitions.specs.Bytes.{mostGroups, numberLimit, numberBytes, numbersBytes, operandsOf, numbersOf, orderBytes, Number, short, bad, number, readGroups, Read, fault, found, placed, numberAt, below, kindAt, cellAt, constantAt, andThen, cellsOrders, ofKind, lastAt, restAt, targetAt, orderAt}
 use Rattle.laws.specs.Tests.{Lt?, less, more, lt?, Eq?, same, diff, eq?}
 use Rattle.codec.specs.Groups as groups
 use Rattle.codec.specs.Groups.{Bytes, groupsLimit}
@@ -27,7 +29,7 @@ bytes-append (x ∷ xs) ys p q (suc i) = bytes-append xs ys (λ j. p (suc j)) q 
 
 number-bytes : (v : ℕ) → Bytes (numberBytes v)
 unfolding numberBytes
-number-bytes v = groups.groups-bytes 5 v
+number-bytes v = groups.groups-bytes mostGroups v
 
 numbers-bytes : (vs : List ℕ) → Bytes (numbersBytes vs)
 numbers-bytes [] i = omega arith
@@ -52,7 +54,7 @@ length₄ w x y z = omega (arith, length-append w (x ++ (y ++ (z ++ []))), lengt
 
 number-some : (v : ℕ) → 1 ≤ length (numberBytes v)
 unfolding numberBytes
-number-some v = groups.at-least-one 4 v
+number-some v = groups.at-least-one mostGroups v (omega arith)
 
 numbers-some : (vs : List ℕ) → length vs ≤ length (numbersBytes vs)
 numbers-some [] = omega arith
@@ -72,15 +74,15 @@ at-least-three o = omega (arith, three-numbers o, numbers-some (numbersOf o))
 
 kind-size : (v : ℕ) → v < 6 → length (numberBytes v) ≤ 1
 unfolding numberBytes groupsLimit
-kind-size v h = groups.at-most-within 0 5 v (omega arith)
+kind-size v h = groups.at-most-within 0 mostGroups v (omega arith)
 
 cell-size : (v : ℕ) → v < cellCount → length (numberBytes v) ≤ 2
 unfolding numberBytes groupsLimit
-cell-size v h = groups.at-most-within 1 5 v (omega arith)
+cell-size v h = groups.at-most-within 1 mostGroups v (omega arith)
 
-number-size : (v : ℕ) → length (numberBytes v) ≤ 5
+number-size : (v : ℕ) → length (numberBytes v) ≤ mostGroups
 unfolding numberBytes
-number-size v = groups.at-most 5 v
+number-size v = groups.at-most mostGroups v
 
 cells-size : (kind d a b : ℕ) → kind < 6 → ThreeCells d a b → length (cellsBytes kind d a b) ≤ 8
 cells-size kind d a b h w = omega (arith, length₄ (numberBytes kind) (numberBytes d) (numberBytes a) (numberBytes b), kind-size kind h, cell-size d (w .0), cell-size a (w .1), cell-size b (w .2))
@@ -95,6 +97,11 @@ at-most-eight (Product d a b) w = cells-size 3 d a b (omega arith) w
 at-most-eight (Less d a b) w = cells-size 4 d a b (omega arith) w
 at-most-eight (Equal d a b) w = cells-size 5 d a b (omega arith) w
 
+-- and there is one of 8 bytes: example 10
+pub longest-order : (o : Order) × WellFormed o × (length (orderBytes o) ≡ 8)
+unfolding orderBytes numberBytes bytes.groups
+longest-order = (Constant 300 2147483646, (omega arith, omega arith), refl)
+
 -- ---- what is written is read
 
 module _ (s : List ℕ) where
@@ -107,7 +114,7 @@ module _ (s : List ℕ) where
   unfolding numberAt numberBytes groupsLimit
   number-there at v rest h e =
       record {
-        read = ap (λ (l : List ℕ). placed at (readGroups 5 true l)) e ∙ ap (placed at) (groups.read-written 4 v rest (omega arith)) ∙ simp (lt-ltb v numberLimit h);
+        read = ap (λ (l : List ℕ). placed at (readGroups mostGroups true l)) e ∙ ap (placed at) (groups.read-written mostGroups v rest (omega arith) (omega arith)) ∙ simp (lt-ltb v numberLimit h);
         then = sym (drop-drop (length (numberBytes v)) at s) ∙ ap (drop (length (numberBytes v))) e ∙ drop-append-seam (numberBytes v) rest;
       }
 
@@ -119,11 +126,11 @@ module _ (s : List ℕ) where
   -- "2^32 or more": such a number's bytes are refused, never read as another number
   pub number-too-big : (at v : ℕ) (rest : List ℕ) → numberLimit ≤ v → drop at s ≡ numberBytes v ++ rest → numberAt s at ≡ fault 11
   unfolding numberAt numberBytes groupsLimit
-  number-too-big at v rest h e = ap (λ (l : List ℕ). placed at (readGroups 5 true l)) e ∙ go (lt? v (groupsLimit 5))
+  number-too-big at v rest h e = ap (λ (l : List ℕ). placed at (readGroups mostGroups true l)) e ∙ go (lt? v (groupsLimit mostGroups))
     where
-      go : {t : Bool} → Lt? v (groupsLimit 5) t → placed at (readGroups 5 true (numberBytes v ++ rest)) ≡ fault 11
-      go (less l) = ap (placed at) (groups.read-written 4 v rest l) ∙ simp (le-ltb v numberLimit h)
-      go (more l) = ap (placed at) (groups.too-big 5 true v rest l)
+      go : {t : Bool} → Lt? v (groupsLimit mostGroups) t → placed at (readGroups mostGroups true (numberBytes v ++ rest)) ≡ fault 11
+      go (less l) = ap (placed at) (groups.read-written mostGroups v rest (omega arith) l) ∙ simp (le-ltb v numberLimit h)
+      go (more l) = ap (placed at) (groups.too-big mostGroups true v rest l)
 
   kind-there : (at v : ℕ) (rest : List ℕ) → v < 6 → drop at s ≡ numberBytes v ++ rest → There (kindAt s at) at v rest
   unfolding kindAt
@@ -146,25 +153,28 @@ module _ (s : List ℕ) where
       let n₃ = constant-there (at + length (numberBytes 0) + length (numberBytes d)) k rest (w .1) (n₂ .then) in
       rw (n₁ .read, n₂ .read, n₃ .read) (ap (found (Constant d k)) (omega (arith, length₃ (numberBytes 0) (numberBytes d) (numberBytes k))))
 
-  cells-order-there : (at kind d a b : ℕ) (rest : List ℕ) → 0 < kind → kind < 6 → ThreeCells d a b → drop at s ≡ cellsBytes kind d a b ++ rest
-      → orderAt s at ≡ found (cellsOrder kind d a b) (at + length (cellsBytes kind d a b))
+  -- the order o of a kind 1 to 5
+  cells-order-there : (at kind d a b : ℕ) (o : Order) (rest : List ℕ) → 0 < kind → kind < 6 → ((next : ℕ) → ofKind kind next (cellsOrders d a b) ≡ found o next) → ThreeCells d a b → drop at s ≡ cellsBytes kind d a b ++ rest
+      → orderAt s at ≡ found o (at + length (cellsBytes kind d a b))
   unfolding orderAt targetAt restAt lastAt
-  cells-order-there at kind d a b rest h k w e =
+  cells-order-there at kind d a b o rest h k one w e =
       let n₁ = kind-there at kind (numberBytes d ++ (numberBytes a ++ (numberBytes b ++ rest))) k (simp append-assoc at e) in
       let n₂ = cell-there (at + length (numberBytes kind)) d (numberBytes a ++ (numberBytes b ++ rest)) (w .0) (n₁ .then) in
       let n₃ = cell-there (at + length (numberBytes kind) + length (numberBytes d)) a (numberBytes b ++ rest) (w .1) (n₂ .then) in
       let n₄ = cell-there (at + length (numberBytes kind) + length (numberBytes d) + length (numberBytes a)) b rest (w .2) (n₃ .then) in
       let z : kind ≡ 0 → ⊥ = λ q. let x : ⊥ = omega arith in x in
-      rw (n₁ .read, n₂ .read, ne-eqb kind 0 z, n₃ .read, n₄ .read) (ap (found (cellsOrder kind d a b)) (omega (arith, length₄ (numberBytes kind) (numberBytes d) (numberBytes a) (numberBytes b))))
+      rw (n₁ .read, n₂ .read, ne-eqb kind 0 z, n₃ .read, n₄ .read)
+      (one (at + length (numberBytes kind) + length (numberBytes d) + length (numberBytes a) + length (numberBytes b))
+      ∙ ap (found o) (omega (arith, length₄ (numberBytes kind) (numberBytes d) (numberBytes a) (numberBytes b))))
 
   pub read-written-at : (at : ℕ) (o : Order) (rest : List ℕ) → WellFormed o → drop at s ≡ orderBytes o ++ rest → orderAt s at ≡ found o (at + length (orderBytes o))
   unfolding orderBytes
   read-written-at at (Constant d k) rest w e = constant-order-there at d k rest w e
-  read-written-at at (Sum d a b) rest w e = cells-order-there at 1 d a b rest (omega arith) (omega arith) w e
-  read-written-at at (Difference d a b) rest w e = cells-order-there at 2 d a b rest (omega arith) (omega arith) w e
-  read-written-at at (Product d a b) rest w e = cells-order-there at 3 d a b rest (omega arith) (omega arith) w e
-  read-written-at at (Less d a b) rest w e = cells-order-there at 4 d a b rest (omega arith) (omega arith) w e
-  read-written-at at (Equal d a b) rest w e = cells-order-there at 5 d a b rest (omega arith) (omega arith) w e
+  read-written-at at (Sum d a b) rest w e = cells-order-there at 1 d a b (Sum d a b) rest (omega arith) (omega arith) (λ next. refl) w e
+  read-written-at at (Difference d a b) rest w e = cells-order-there at 2 d a b (Difference d a b) rest (omega arith) (omega arith) (λ next. refl) w e
+  read-written-at at (Product d a b) rest w e = cells-order-there at 3 d a b (Product d a b) rest (omega arith) (omega arith) (λ next. refl) w e
+  read-written-at at (Less d a b) rest w e = cells-order-there at 4 d a b (Less d a b) rest (omega arith) (omega arith) (λ next. refl) w e
+  read-written-at at (Equal d a b) rest w e = cells-order-there at 5 d a b (Equal d a b) rest (omega arith) (omega arith) (λ next. refl) w e
 
 pub read-written : (front : List ℕ) (o : Order) (rest : List ℕ) → WellFormed o → orderAt (front ++ (orderBytes o ++ rest)) (length front) ≡ found o (length front + length (orderBytes o))
 read-written front o rest w = read-written-at (front ++ (orderBytes o ++ rest)) (length front) o rest w (drop-append-seam front (orderBytes o ++ rest))
@@ -185,29 +195,45 @@ through : {A : Type 0} (r : Read ℕ) (f : ℕ → ℕ → Read A) (a : A) (next
 through (fault k) f a next e = fault-found e
 through (found v mid) f a next e = record { value = v; mid = mid; was = refl; rest = e }
 
--- a kind 1 to 5 that is read is the kind that is written
-cells-order-bytes : (kind d a b : ℕ) → 0 < kind → kind < 6 → orderBytes (cellsOrder kind d a b) ≡ cellsBytes kind d a b
+-- an order found by its kind: it is of that kind, and what holds of each order searched holds of it
+abbrev Each : (Order → Type 0) → List Order → Type 0
+Each P [] = Unit {0}
+Each P (o ∷ os) = P o × Each P os
+
+module _ (P : Order → Type 0) (kind next : ℕ) (o : Order) (after : ℕ) where
+  record OfKind : Type 0 where
+    holds : P o
+    kind-read : kindOf o ≡ kind
+    offset : next ≡ after
+
+  of-kind : (os : List Order) → Each P os → ofKind kind next os ≡ found o after → OfKind
+  of-kind [] h e = fault-found e
+  of-kind (x ∷ os) h e = go (eq? (kindOf x) kind) (of-kind os (h .1)) e
+    where
+      go : {t : Bool} → Eq? (kindOf x) kind t → (ofKind kind next os ≡ found o after → OfKind) → cond t (found x next) (ofKind kind next os) ≡ found o after → OfKind
+      go (same p) others e = let u : x ≡ o = cc in record { holds = subst P u (h .0); kind-read = sym (ap kindOf u) ∙ p; offset = cc }
+      go (diff p) others e = others e
+
+-- an order that reads two cells, by its target and these
+record ReadsCells (d a b : ℕ) (o : Order) : Type 0 where
+  operands : operandsOf o ≡ d ∷ a ∷ b ∷ []
+  formed : ThreeCells d a b → WellFormed o
+
+reads-cells : (d a b : ℕ) → Each (ReadsCells d a b) (cellsOrders d a b)
+reads-cells d a b = (itself (Sum d a b) refl (λ w. w), (itself (Difference d a b) refl (λ w. w), (itself (Product d a b) refl (λ w. w), (itself (Less d a b) refl (λ w. w), (itself (Equal d a b) refl (λ w. w), tt)))))
+  where
+    itself : (o : Order) → operandsOf o ≡ d ∷ a ∷ b ∷ [] → (ThreeCells d a b → WellFormed o) → ReadsCells d a b o
+    itself o e f = record { operands = e; formed = f }
+
+-- the kind that is read is the kind that is written
+cells-order-bytes : (kind d a b : ℕ) (o : Order) → kindOf o ≡ kind → ReadsCells d a b o → orderBytes o ≡ cellsBytes kind d a b
 unfolding orderBytes
-cells-order-bytes zero d a b h k = absurd (let x : ⊥ = omega arith in x)
-cells-order-bytes (suc zero) d a b h k = refl
-cells-order-bytes (suc (suc zero)) d a b h k = refl
-cells-order-bytes (suc (suc (suc zero))) d a b h k = refl
-cells-order-bytes (suc (suc (suc (suc zero)))) d a b h k = refl
-cells-order-bytes (suc (suc (suc (suc (suc zero))))) d a b h k = refl
-cells-order-bytes (suc (suc (suc (suc (suc (suc n)))))) d a b h k = absurd (let x : ⊥ = omega arith in x)
+cells-order-bytes kind d a b o e r = ap₂ (λ (v : ℕ) (vs : List ℕ). numbersBytes (v ∷ vs)) e (r .operands)
 
 -- the last number apart from those before it
 cells-front : (kind d a b : ℕ) → cellsBytes kind d a b ≡ ((numberBytes kind ++ numberBytes d) ++ numberBytes a) ++ numberBytes b
 cells-front kind d a b =
     ap (λ (l : List ℕ). numberBytes kind ++ (numberBytes d ++ (numberBytes a ++ l))) (append-nil (numberBytes b)) ∙ sym (simp append-assoc)
-
-cells-order-well-formed : (kind d a b : ℕ) → ThreeCells d a b → WellFormed (cellsOrder kind d a b)
-cells-order-well-formed zero d a b w = w
-cells-order-well-formed (suc zero) d a b w = w
-cells-order-well-formed (suc (suc zero)) d a b w = w
-cells-order-well-formed (suc (suc (suc zero))) d a b w = w
-cells-order-well-formed (suc (suc (suc (suc zero)))) d a b w = w
-cells-order-well-formed (suc (suc (suc (suc (suc n))))) d a b w = w
 
 constant-order-bytes : (d k : ℕ) → orderBytes (Constant d k) ≡ (numberBytes 0 ++ numberBytes d) ++ numberBytes k
 unfolding orderBytes
@@ -234,9 +260,9 @@ module _ (s : List ℕ) where
 
   number-passed : (at v next : ℕ) → numberAt s at ≡ found v next → Passed at (numberBytes v) next
   unfolding numberAt numberBytes
-  number-passed at v next e = go (readGroups 5 true (drop at s)) refl e
+  number-passed at v next e = go (readGroups mostGroups true (drop at s)) refl e
     where
-      go : (r : Number) → readGroups 5 true (drop at s) ≡ r → placed at r ≡ found v next → Passed at (numberBytes v) next
+      go : (r : Number) → readGroups mostGroups true (drop at s) ≡ r → placed at r ≡ found v next → Passed at (numberBytes v) next
       go short q e = fault-found e
       go bad q e = fault-found e
       go (number w n) q e = in-limit (ltb w numberLimit) e
@@ -245,7 +271,7 @@ module _ (s : List ℕ) where
           in-limit true e =
               let a : w ≡ v = cc in
               let b : at + n ≡ next = cc in
-              let r = groups.only-shortest 5 true (drop at s) w n q in
+              let r = groups.only-shortest mostGroups true (drop at s) w n q in
               record {
                 onward = omega (arith, r .some);
                 within = omega (arith, r .some, r .inside, length-drop at s);
@@ -293,20 +319,18 @@ module _ (s : List ℕ) where
   earlier front xs at mid o next p r =
       record { wellFormed = r .wellFormed; bytes = xs ++ r .bytes; whole = r .whole ∙ append-assoc front xs (r .bytes); passed = passed-both p (r .passed) }
 
-  last-rest : (kind d a at : ℕ) (o : Order) (next : ℕ) → 0 < kind → kind < 6 → d < cellCount → a < cellCount → lastAt s kind d a at ≡ found o next → Rest ((numberBytes kind ++ numberBytes d) ++ numberBytes a) at o next
+  last-rest : (kind d a at : ℕ) (o : Order) (next : ℕ) → d < cellCount → a < cellCount → lastAt s kind d a at ≡ found o next → Rest ((numberBytes kind ++ numberBytes d) ++ numberBytes a) at o next
   unfolding lastAt
-  last-rest kind d a at o next h k hd ha e =
-      let t = through (cellAt s at) (λ b n. found (cellsOrder kind d a b) n) o next e in
+  last-rest kind d a at o next hd ha e =
+      let t = through (cellAt s at) (λ b n. ofKind kind n (cellsOrders d a b)) o next e in
       let b : ℕ = t .value in
       let l = cell-passed at b (t .mid) (t .was) in
-      let q : found (cellsOrder kind d a b) (t .mid) ≡ found o next = t .rest in
-      let u : cellsOrder kind d a b ≡ o = cc in
-      let w : t .mid ≡ next = cc in
+      let q = of-kind (ReadsCells d a b) kind (t .mid) o next (cellsOrders d a b) (reads-cells d a b) (t .rest) in
       record {
-        wellFormed = subst WellFormed u (cells-order-well-formed kind d a b (hd, ha, l .small));
+        wellFormed = q .holds .formed (hd, ha, l .small);
         bytes = numberBytes b;
-        whole = sym (ap orderBytes u) ∙ cells-order-bytes kind d a b h k ∙ cells-front kind d a b;
-        passed = subst (λ (n : ℕ). Passed at (numberBytes b) n) w (l .passed);
+        whole = cells-order-bytes kind d a b o (q .kind-read) (q .holds) ∙ cells-front kind d a b;
+        passed = subst (λ (n : ℕ). Passed at (numberBytes b) n) (q .offset) (l .passed);
       }
 
   constant-rest : (d at : ℕ) (o : Order) (next : ℕ) → d < cellCount → andThen (constantAt s at) (λ k n. found (Constant d k) n) ≡ found o next → Rest (numberBytes 0 ++ numberBytes d) at o next
@@ -334,8 +358,7 @@ module _ (s : List ℕ) where
       go (diff p) e =
           let t = through (cellAt s at) (λ a n. lastAt s kind d a n) o next e in
           let l = cell-passed at (t .value) (t .mid) (t .was) in
-          let h : 0 < kind = omega arith in
-          earlier (numberBytes kind ++ numberBytes d) (numberBytes (t .value)) at (t .mid) o next (l .passed) (last-rest kind d (t .value) (t .mid) o next h k hd (l .small) (t .rest))
+          earlier (numberBytes kind ++ numberBytes d) (numberBytes (t .value)) at (t .mid) o next (l .passed) (last-rest kind d (t .value) (t .mid) o next hd (l .small) (t .rest))
 
   target-rest : (kind at : ℕ) (o : Order) (next : ℕ) → kind < 6 → targetAt s kind at ≡ found o next → Rest (numberBytes kind) at o next
   unfolding targetAt
@@ -432,7 +455,7 @@ module _ (s : List ℕ) where
       let n₃ = cell-there s at₂ a (numberBytes b ++ rest) ha (n₂ .then) in
       let at₃ : ℕ = at₂ + length (numberBytes a) in
       let q₃ : lastAt s kind d a at₃ ≡ found o next = sym (ap (λ (r : Read ℕ). andThen r (λ x n. lastAt s kind d x n)) (n₃ .read)) ∙ q₂ in
-      let t₃ = through (cellAt s at₃) (λ x n. found (cellsOrder kind d a x) n) o next q₃ in
+      let t₃ = through (cellAt s at₃) (λ x n. ofKind kind n (cellsOrders d a x)) o next q₃ in
       (hd, ha, cell-limited at₃ b rest (n₃ .then) (t₃ .was))
 
   pub accepted-written : (at : ℕ) (o : Order) (rest : List ℕ) {read : Order} {next : ℕ} → drop at s ≡ orderBytes o ++ rest → orderAt s at ≡ found read next → WellFormed o

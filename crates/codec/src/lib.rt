@@ -5,7 +5,7 @@ ghost use mathlib.Core.List.{_++_};
 ghost use lib.ListN.{length, drop};
 ghost use lib.Seq.{sets};
 ghost use Rattle.definitions.specs.Answers.{refusalOf};
-ghost use Rattle.definitions.specs.Bytes.{mostGroups, groups, numberBytes, orderBytes, readGroups, numberAt, kindAt, cellAt, constantAt, lastAt, restAt, targetAt, orderAt, cellsOrder};
+ghost use Rattle.definitions.specs.Bytes.{mostGroups, groups, numberBytes, orderBytes, readGroups, numberAt, kindAt, cellAt, constantAt, lastAt, restAt, targetAt, orderAt, cellsOrders, ofKind};
 ghost use Rattle.codec.specs.Answer.{answerAt, orderAnswer, numberAnswer, groupsAnswer, limitedAnswer};
 ghost use Rattle.codec.specs.Written.{fieldsOf, writtenSize, writtenBytes};
 use definitions::Limits;
@@ -126,16 +126,17 @@ fn read_constant(bytes: &[u8], start: usize, at: usize) -> ReadNumber
     limited(number, Limits::MODULUS as usize, Verdict::Operand(start))
 }
 
-// The order of a kind 1 to 5.
-fn cells_order(kind: usize, d: usize, a: usize, b: usize) -> Order
-    ensures { λ r. ⌜ r ≡ cellsOrder kind d a b ⌝ }
+// The order of a kind 1 to 5 and the offset after it; no other kind has two cells.
+fn cells_order(start: usize, kind: usize, d: usize, a: usize, b: usize, next: usize) -> ReadOrder
+    ensures { λ r. ⌜ orderAnswer r ≡ answerAt start (ofKind kind next (cellsOrders d a b)) ⌝ }
 {
     match kind {
-        1 => Order::Sum { d, a, b },
-        2 => Order::Difference { d, a, b },
-        3 => Order::Product { d, a, b },
-        4 => Order::Less { d, a, b },
-        _ => Order::Equal { d, a, b },
+        1 => ReadOrder::Found(Order::Sum { d, a, b }, next),
+        2 => ReadOrder::Found(Order::Difference { d, a, b }, next),
+        3 => ReadOrder::Found(Order::Product { d, a, b }, next),
+        4 => ReadOrder::Found(Order::Less { d, a, b }, next),
+        5 => ReadOrder::Found(Order::Equal { d, a, b }, next),
+        _ => ReadOrder::Refused(Verdict::Kind(start)),
     }
 }
 
@@ -145,7 +146,7 @@ fn read_last(bytes: &[u8], start: usize, kind: usize, d: usize, a: usize, at: us
 {
     match read_cell(bytes, start, at) {
         ReadNumber::Refused(verdict) => ReadOrder::Refused(verdict),
-        ReadNumber::Found(b, next) => ReadOrder::Found(cells_order(kind, d, a, b), next),
+        ReadNumber::Found(b, next) => cells_order(start, kind, d, a, b, next),
     }
 }
 
@@ -257,7 +258,7 @@ fn group_count(v: usize, g: usize) -> usize
 
 // How many bytes a number has.
 fn number_size(v: usize) -> usize
-    ensures { λ r. ⌜ (r ≡ length (numberBytes v)) × (r ≤ 5) ⌝ }
+    ensures { λ r. ⌜ (r ≡ length (numberBytes v)) × (r ≤ mostGroups) ⌝ }
 {
     group_count(v, MOST_GROUPS)
 }

@@ -1,4 +1,5 @@
--- The runner's refusals in turn, what an accepted run says of its sheet, and that the bytes of a list of orders run as that list (orders-bytes-run).
+-- The runner's refusals in turn, what an accepted run says of its sheet (ran-on-sheet) and leaves (run-leaves-sheet), and that the bytes of a list of
+-- orders run as that list (orders-bytes-run).
 use Prim.Native.Nat.{ℕ}
 use mathlib.Core.Path.{_≡_, refl, sym, ap, _∙_, subst}
 use mathlib.Core.Bool.{true, false}
@@ -13,7 +14,7 @@ use Rattle.definitions.specs.Machine.{IsSheet, runOf, AllWellFormed}
 use Rattle.definitions.specs.Bytes.{Parsed, ordersBytes, parse}
 use Rattle.definitions.specs.Calls.{cellsRefusal, lengthRefusal, runRefusal, runSheet, runCount}
 use Rattle.laws.specs.Refusal.{test-passed, first-refused, first-none, first-left, first-right, unless-none, unless-refused}
-use Rattle.residues.specs.Cells as accepted
+use Rattle.residues.specs.Cells.{accepted-sheet, sheet-accepted}
 use Rattle.codec.specs.PlanBytes.{orders-read-back, parsed-well-formed}
 use Rattle.machine.specs.Run.{run-sheet}
 
@@ -34,9 +35,9 @@ module _ (sheet bytes : List ℕ) where
 
   -- ---- what the run leaves and gives
 
-  pub sheet-accepted : isNone (runRefusal sheet bytes) ≡ true → runSheet sheet bytes ≡ runOf (parse bytes .orders) sheet
+  pub sheet-run : isNone (runRefusal sheet bytes) ≡ true → runSheet sheet bytes ≡ runOf (parse bytes .orders) sheet
   unfolding runSheet
-  sheet-accepted e = unless-none (runRefusal sheet bytes) (runOf (parse bytes .orders) sheet) sheet e
+  sheet-run e = unless-none (runRefusal sheet bytes) (runOf (parse bytes .orders) sheet) sheet e
 
   pub sheet-refused : isNone (runRefusal sheet bytes) ≡ false → runSheet sheet bytes ≡ sheet
   unfolding runSheet
@@ -53,25 +54,25 @@ module _ (sheet bytes : List ℕ) where
 -- ---- a sheet is what the length and the cells accept
 
 module _ (sheet : List ℕ) where
-  pub accepted-sheet : (bytes : List ℕ) → runRefusal sheet bytes ≡ none → IsSheet sheet
+  pub ran-on-sheet : (bytes : List ℕ) → runRefusal sheet bytes ≡ none → IsSheet sheet
   unfolding runRefusal
-  accepted-sheet bytes e =
+  ran-on-sheet bytes e =
       let rest : Refusal = first (cellsRefusal sheet) (parse bytes .refusal) in
       let stated : Refusal = lengthRefusal (eqb (length sheet) cellCount) in
-      accepted.accepted-sheet sheet (eqb-true (length sheet) cellCount (test-passed _ 3 0 (first-left stated rest e)))
+      accepted-sheet sheet (eqb-true (length sheet) cellCount (test-passed _ 3 0 (first-left stated rest e)))
       (first-left (cellsRefusal sheet) (parse bytes .refusal) (first-right stated rest e))
 
   -- of a sheet, the bytes alone are refused
   pub sheet-refusal : (bytes : List ℕ) → IsSheet sheet → runRefusal sheet bytes ≡ parse bytes .refusal
-  sheet-refusal bytes h = refused-bytes sheet bytes (h .cells) (ap isNone (accepted.sheet-accepted sheet h))
+  sheet-refusal bytes h = refused-bytes sheet bytes (h .cells) (ap isNone (sheet-accepted sheet h))
 
--- ---- the bytes of a list of orders
-
--- an accepted run leaves a sheet
+-- an accepted run ran on a sheet and leaves a sheet
 pub run-leaves-sheet : (sheet bytes : List ℕ) → runRefusal sheet bytes ≡ none → IsSheet (runSheet sheet bytes)
 run-leaves-sheet sheet bytes e =
-    subst IsSheet (sym (sheet-accepted sheet bytes (ap isNone e)))
-    (run-sheet (parse bytes .orders) sheet (accepted-sheet sheet bytes e) (parsed-well-formed bytes))
+    subst IsSheet (sym (sheet-run sheet bytes (ap isNone e)))
+    (run-sheet (parse bytes .orders) sheet (ran-on-sheet sheet bytes e) (parsed-well-formed bytes))
+
+-- ---- the bytes of a list of orders
 
 pub record RunsAs (sheet : List ℕ) (os : List Order) : Type 0 where
   pub refusal : runRefusal sheet (ordersBytes os) ≡ none
@@ -84,6 +85,6 @@ orders-bytes-run sheet os h w =
     let e : runRefusal sheet (ordersBytes os) ≡ none = sheet-refusal sheet (ordersBytes os) h ∙ ap (λ (x : Parsed). x .refusal) p in
     record {
       refusal = e;
-      cells = sheet-accepted sheet (ordersBytes os) (ap isNone e) ∙ ap (λ (x : Parsed). runOf (x .orders) sheet) p;
+      cells = sheet-run sheet (ordersBytes os) (ap isNone e) ∙ ap (λ (x : Parsed). runOf (x .orders) sheet) p;
       count = count-accepted sheet (ordersBytes os) (ap isNone e) ∙ ap (λ (x : Parsed). length (x .orders)) p;
     }

@@ -7,13 +7,13 @@ use lib.ListN.{drop, getD}
 use lib.Dec.{ltb}
 use borrow.Author.Needs.{needs}
 use borrow.Author.Tests.{lt-ltb, le-ltb}
-use Rattle.definitions.specs.Bytes.{readGroups, lastGroup, moreGroups}
+use Rattle.definitions.specs.Bytes.{mostGroups, readGroups, lastGroup, moreGroups}
 use Rattle.codec.specs.declared.ReadGroups.{ReadGroups}
 use Rattle.codec.specs.declared.ReadGroups.the-variants.{Short, Bad, Number}
 use Rattle.codec.specs.Answer.{groupsAnswer}
-use Rattle.codec.specs.Groups.{Shortest, only-shortest}
+use Rattle.codec.specs.Groups.{groupsLimit, limit-grows, Shortest, only-shortest}
 use Rattle.laws.specs.Tests.{positive}
-use Rattle.codec.proofs.Places.{no-groups, no-bytes, a-byte, limit-small}
+use Rattle.codec.proofs.Places.{no-groups, no-bytes, a-byte}
 use borrow.Fn.Kinds.{In}
 use borrow.Fn.PlainCycle.{Measures, is, falls, and}
 use Rattle.codec.proofs.read_groups.Reads as read-groups
@@ -61,12 +61,13 @@ rest-of t c =
     let a = c .before .before .before .before .before .before .before .before .before .args in
     only-shortest (a .g - 1) false (drop (a .at + 1) (a .bytes .now)) _ _ (sym (c .before .before .before .read-groups .ensures) ∙ ap groupsAnswer (c .before .v .given .1))
 
-bounded : (t : ℕ) (c : read-groups-lts.After-known-told (read-groups-below t, read-groups.Post) (read-groups-at t) read-groups.Post) → (c .before .v .given .0 .0 < 34359738368) × (c .before .v .given .0 .1 .0 ≤ 5)
+-- so its value and its bytes are those of a number of the most groups
+bounded : (t : ℕ) (c : read-groups-lts.After-known-told (read-groups-below t, read-groups.Post) (read-groups-at t) read-groups.Post) → (c .before .v .given .0 .0 < groupsLimit mostGroups) × (c .before .v .given .0 .1 .0 ≤ mostGroups)
 bounded t c =
     let r = rest-of t c in
-    let k = c .before .before .before .before .before .before .before .before .before .pre .1 in
-    let h : c .before .before .before .before .before .before .before .before .before .args .g - 1 ≤ 5 = omega arith in
-    (omega (arith, r .value, limit-small (c .before .before .before .before .before .before .before .before .before .args .g - 1) h), omega (arith, r .size))
+    let s = c .before .before .before .before .before .before .before .before .before in
+    let h : s .args .g - 1 ≤ mostGroups = omega (arith, s .pre .1) in
+    (omega (arith, r .value, limit-grows (s .args .g - 1) mostGroups h), omega (arith, r .size))
 
 read-groups-shared-slice-read-x : (t : ℕ) → read-groups-lts.Need-shared-slice-read-x (
   read-groups-below t,
@@ -121,10 +122,12 @@ read-groups-enum-known-v t c = search needs
 
 read-groups-mul-t17 :
     (t : ℕ) → read-groups-lts.Need-mul-t17 (read-groups-below t, read-groups.Post) (read-groups-at t) read-groups.Post
+unfolding groupsLimit
 read-groups-mul-t17 t c = omega (arith, bounded t c .0)
 
 read-groups-add-t18 :
     (t : ℕ) → read-groups-lts.Need-add-t18 (read-groups-below t, read-groups.Post) (read-groups-at t) read-groups.Post
+unfolding groupsLimit
 read-groups-add-t18 t c = omega (arith, bounded t c .0)
 
 read-groups-add-t19 :

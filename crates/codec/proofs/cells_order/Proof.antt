@@ -1,34 +1,31 @@
--- `codec::cells_order` meets its contract: each arm is one clause of `cellsOrder`.
-use Prim.Native.Nat.{ℕ, zero, suc}
-use mathlib.Core.Path.{_≡_, refl, sym, ap}
-use Rattle.definitions.specs.declared.Order.the-variants.{Equal}
-use Rattle.definitions.specs.Bytes.{cellsOrder}
+-- `codec::cells_order` meets its contract: each arm is told the kind, which is that of one of the five orders; any other kind is that of none.
+use mathlib.Core.Path.{refl, sym}
+use borrow.Author.Tests.{ne-eqb}
 use Rattle.codec.proofs.cells_order.Statement.{statement}
 use Rattle.codec.proofs.cells_order.Tie as tie
 
--- any other kind
-other : (kind d a b : ℕ) → (kind ≡ 1 → ⊥) → (kind ≡ 2 → ⊥) → (kind ≡ 3 → ⊥) → (kind ≡ 4 → ⊥) → Equal d a b ≡ cellsOrder kind d a b
-other zero d a b p q r s = refl
-other (suc zero) d a b p q r s = absurd (p refl)
-other (suc (suc zero)) d a b p q r s = absurd (q refl)
-other (suc (suc (suc zero))) d a b p q r s = absurd (r refl)
-other (suc (suc (suc (suc zero)))) d a b p q r s = absurd (s refl)
-other (suc (suc (suc (suc (suc k))))) d a b p q r s = refl
-
 returns : tie.Need-returns
-returns c = sym (ap (λ (k : ℕ). cellsOrder k (c .before .args .d) (c .before .args .a) (c .before .args .b)) (c .match .keys1))
+returns c = rw (c .match .keys1) refl
 
 returns-2 : tie.Need-returns-2
-returns-2 c = sym (ap (λ (k : ℕ). cellsOrder k (c .before .args .d) (c .before .args .a) (c .before .args .b)) (c .match .keys2))
+returns-2 c = rw (c .match .keys2) refl
 
 returns-3 : tie.Need-returns-3
-returns-3 c = sym (ap (λ (k : ℕ). cellsOrder k (c .before .args .d) (c .before .args .a) (c .before .args .b)) (c .match .keys3))
+returns-3 c = rw (c .match .keys3) refl
 
 returns-4 : tie.Need-returns-4
-returns-4 c = sym (ap (λ (k : ℕ). cellsOrder k (c .before .args .d) (c .before .args .a) (c .before .args .b)) (c .match .keys4))
+returns-4 c = rw (c .match .keys4) refl
 
 returns-5 : tie.Need-returns-5
-returns-5 c = other (c .before .args .kind) _ _ _ (c .match .rest .0 .0 .0 .1) (c .match .rest .0 .0 .1) (c .match .rest .0 .1) (c .match .rest .1)
+returns-5 c = rw (c .match .keys5) refl
+
+-- the refutations of the kinds 1 to 5, the last one first
+returns-6 : tie.Need-returns-6
+returns-6 c =
+    let kind = c .before .args .kind in
+    let r = c .match .rest in
+    rw (ne-eqb 1 kind (λ e. r .0 .0 .0 .0 .1 (sym e)), ne-eqb 2 kind (λ e. r .0 .0 .0 .1 (sym e)), ne-eqb 3 kind (λ e. r .0 .0 .1 (sym e)), ne-eqb 4 kind (λ e. r .0 .1 (sym e)), ne-eqb 5 kind (λ e. r .1 (sym e)))
+    refl
 
 pub cells-order-spec : {M : Type 1} → statement M
-cells-order-spec = tie.close (tie.spec returns returns-2 returns-3 returns-4 returns-5)
+cells-order-spec = tie.close (tie.spec returns returns-2 returns-3 returns-4 returns-5 returns-6)

@@ -1,5 +1,6 @@
 -- `codec::read_cell` meets its contract: the limit of a cell.
 use mathlib.Core.Path.{ap, _∙_}
+use Rattle.definitions.specs.Limits.{cellCount}
 use Rattle.definitions.specs.Answers.{refuse}
 use Rattle.definitions.specs.Bytes.{numberAt, cellAt}
 use Rattle.codec.specs.Answer.{limitedAnswer}
@@ -19,8 +20,8 @@ unfolding cellAt
 returns c =
     let a = c .before .before .before .args in
     c .limited .ensures
-    ∙ ap (limitedAnswer 4096 (refuse 12 (a .start))) (c .before .read-number .ensures)
-    ∙ limited-below (a .start) 4096 12 (numberAt (a .bytes .now) (a .at))
+    ∙ ap (limitedAnswer cellCount (refuse 12 (a .start))) (c .before .read-number .ensures)
+    ∙ limited-below (a .start) cellCount 12 (numberAt (a .bytes .now) (a .at))
 
 pub read-cell-spec : {M : Type 1} → statement M
 read-cell-spec = tie.close (tie.spec read-number-requires limited-requires returns)

@@ -1,5 +1,6 @@
 -- `codec::read_constant` meets its contract: the limit of a constant.
 use mathlib.Core.Path.{ap, _∙_}
+use Rattle.definitions.specs.Limits.{modulus}
 use Rattle.definitions.specs.Answers.{refuse}
 use Rattle.definitions.specs.Bytes.{numberAt, constantAt}
 use Rattle.codec.specs.Answer.{limitedAnswer}
@@ -22,8 +23,8 @@ unfolding constantAt
 returns c =
     let a = c .before .before .before .args in
     c .limited .ensures
-    ∙ ap (limitedAnswer 2147483647 (refuse 12 (a .start))) (c .before .read-number .ensures)
-    ∙ limited-below (a .start) 2147483647 12 (numberAt (a .bytes .now) (a .at))
+    ∙ ap (limitedAnswer modulus (refuse 12 (a .start))) (c .before .read-number .ensures)
+    ∙ limited-below (a .start) modulus 12 (numberAt (a .bytes .now) (a .at))
 
 pub read-constant-spec : {M : Type 1} → statement M
 read-constant-spec =

@@ -1,9 +1,7 @@
--- `codec::read_last` meets its contract: the second cell is refused, or the order is whole.
+-- `codec::read_last` meets its contract: the second cell is refused, or is followed by the order of its kind.
 use Prim.Native.Nat.{ℕ}
-use mathlib.Core.Path.{ap}
 use Rattle.definitions.specs.declared.Order.{Order}
-use Rattle.definitions.specs.Bytes.{Read, found, cellAt, cellsOrder, lastAt}
-use Rattle.codec.specs.Answer.{given}
+use Rattle.definitions.specs.Bytes.{Read, cellAt, cellsOrders, ofKind, lastAt}
 use Rattle.codec.proofs.Steps.{refused-then, found-then}
 use borrow.Author.Needs.{needs}
 use Rattle.codec.proofs.read_last.Statement.{statement}
@@ -11,7 +9,7 @@ use Rattle.codec.proofs.read_last.Tie as tie
 
 -- what follows the cell
 abbrev whole : (kind d a : ℕ) → ℕ → ℕ → Read Order
-whole kind d a b next = found (cellsOrder kind d a b) next
+whole kind d a b next = ofKind kind next (cellsOrders d a b)
 
 read-cell-requires : tie.Need-read-cell-requires
 read-cell-requires c κs = search needs
@@ -36,7 +34,7 @@ unfolding lastAt
 returns-2 c =
     let a = c .before .before .before .before .before .before .args in
     found-then (a .start) (cellAt (a .bytes .now) (a .at)) (whole (a .kind) (a .d) (a .a)) (c .before .before .b .given .1) (c .before .before .before .before .read-cell .ensures)
-    (ap (λ (o : Order). given o (c .before .before .b .given .0 .1 .0)) (c .cells-order .ensures))
+    (c .cells-order .ensures)
 
 pub read-last-spec : {M : Type 1} → statement M
 read-last-spec =

@@ -4,7 +4,7 @@ use mathlib.Core.Bool.{true}
 use native.Mathlib.Omega.{arith}
 use lib.ListN.{drop, length-drop}
 use borrow.Author.Tests.{lt-ltb, le-ltb}
-use Rattle.definitions.specs.Bytes.{number, readGroups, numberAt}
+use Rattle.definitions.specs.Bytes.{mostGroups, numberLimit, number, readGroups, numberAt}
 use Rattle.codec.specs.Answer.{groupsAnswer}
 use Rattle.codec.specs.Groups.{only-shortest}
 use borrow.Author.Needs.{needs}
@@ -12,7 +12,7 @@ use Rattle.codec.proofs.read_number.Statement.{statement}
 use Rattle.codec.proofs.read_number.Tie as tie
 
 -- what was read
-read-there : (c : tie.After-known-told) → let a = c .before .before .before .before .before .args in readGroups 5 true (drop (a .at) (a .bytes .now)) ≡ number (c .before .v .given .0 .0) (c .before .v .given .0 .1 .0)
+read-there : (c : tie.After-known-told) → let a = c .before .before .before .before .before .args in readGroups mostGroups true (drop (a .at) (a .bytes .now)) ≡ number (c .before .v .given .0 .0) (c .before .v .given .0 .1 .0)
 read-there c = sym (c .before .before .before .read-groups .ensures) ∙ ap groupsAnswer (c .before .v .given .1)
 
 read-groups-requires : tie.Need-read-groups-requires
@@ -31,7 +31,7 @@ add-t12 : tie.Need-add-t12
 add-t12 c =
     let s = c .before .before .before .before .before .before in
     let a = s .args in
-    let r = only-shortest 5 true (drop (a .at) (a .bytes .now)) _ _ (read-there (c .before)) in
+    let r = only-shortest mostGroups true (drop (a .at) (a .bytes .now)) _ _ (read-there (c .before)) in
     omega (arith, r .inside, length-drop (a .at) (a .bytes .now), s .fits .at, s .good)
 
 returns : tie.Need-returns
@@ -44,11 +44,11 @@ returns-2 c = rw (sym (c .before .before .read-groups .ensures) ∙ ap groupsAns
 
 returns-3 : tie.Need-returns-3
 unfolding numberAt
-returns-3 c = rw (read-there (c .before)) (simp (lt-ltb _ _ (c .if1 .taken)))
+returns-3 c = rw (read-there (c .before)) (simp (lt-ltb (c .before .before .v .given .0 .0) numberLimit (omega (arith, c .if1 .taken))))
 
 returns-4 : tie.Need-returns-4
 unfolding numberAt
-returns-4 c = rw (read-there (c .before)) (simp (le-ltb _ _ (c .if1 .left)))
+returns-4 c = rw (read-there (c .before)) (simp (le-ltb (c .before .before .v .given .0 .0) numberLimit (omega (arith, c .if1 .left))))
 
 pub read-number-spec : {M : Type 1} → statement M
 read-number-spec =

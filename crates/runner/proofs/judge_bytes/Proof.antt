@@ -13,13 +13,13 @@ use Rattle.runner.proofs.judge_bytes.Statement.{statement}
 use Rattle.runner.proofs.judge_bytes.Tie as tie
 
 abbrev Inv-loop : tie.InvT-loop
-Inv-loop bytes at₀ at = (at ≤ length bytes) × (parse bytes .refusal ≡ parseRest bytes at .refusal)
+Inv-loop bytes at₀ at = (parse bytes .refusal ≡ parseRest bytes at .refusal) × (at ≤ length bytes)
 
 abbrev μ-loop : tie.MeasureT-loop
 μ-loop bytes at₀ at = length bytes - at
 
 loop-holds : tie.Need-loop-holds Inv-loop μ-loop
-loop-holds c = (omega arith, ap (λ (p : Parsed). p .refusal) (rest-start (c .before .args .bytes .now)))
+loop-holds c = (ap (λ (p : Parsed). p .refusal) (rest-start (c .before .args .bytes .now)), omega arith)
 
 read-order-requires : tie.Need-read-order-requires Inv-loop μ-loop
 read-order-requires c κs = tt
@@ -31,7 +31,7 @@ returns : tie.Need-returns Inv-loop μ-loop
 returns c =
     let l = c .before .before .before .before .before .loop in
     let b = c .before .before .before .before .before .before .before .args .bytes .now in
-    sym (l .inv .1 ∙ ap (λ (p : Parsed). p .refusal) (turn-refused b (l .at) (c .before .before .before .before .loop-test .taken) (refusalOf (c .before .verdict .given .0 .0)) (sym (ap orderAnswer (c .before .verdict .given .1)) ∙ c .before .before .before .read-order .ensures)))
+    sym (l .inv .0 ∙ ap (λ (p : Parsed). p .refusal) (turn-refused b (l .at) (c .before .before .before .before .loop-test .taken) (refusalOf (c .before .verdict .given .0 .0)) (sym (ap orderAnswer (c .before .verdict .given .1)) ∙ c .before .before .before .read-order .ensures)))
 
 enum-known-next : tie.Need-enum-known-next Inv-loop μ-loop
 enum-known-next c = search needs
@@ -47,12 +47,13 @@ loop-again : tie.Need-loop-again Inv-loop μ-loop
 loop-again c =
     let l = c .before .before .before .before .before .loop in
     let b = c .before .before .before .before .before .before .before .args .bytes .now in
-    (turn-read b (l .at) _ _ (answered c) .within, l .inv .1 ∙ ap (λ (p : Parsed). p .refusal) (turn-order b (l .at) (c .before .before .before .before .loop-test .taken) _ _ (answered c)))
+    let later = ap (λ (p : Parsed). p .refusal) (turn-order b (l .at) (c .before .before .before .before .loop-test .taken) _ _ (answered c)) in
+    (l .inv .0 ∙ later, turn-read b (l .at) _ _ (answered c) .within)
 
 returns-2 : tie.Need-returns-2 Inv-loop μ-loop
 returns-2 c =
     let l = c .before .loop in
-    sym (l .inv .1 ∙ ap (λ (p : Parsed). p .refusal) (rest-end (c .before .before .before .args .bytes .now) (l .at) (c .loop-test .left)))
+    sym (l .inv .0 ∙ ap (λ (p : Parsed). p .refusal) (rest-end (c .before .before .before .args .bytes .now) (l .at) (c .loop-test .left)))
 
 pub judge-bytes-spec : {M : Type 1} → statement M
 judge-bytes-spec =

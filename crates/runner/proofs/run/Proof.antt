@@ -4,7 +4,7 @@ use mathlib.Core.Bool.{true, false}
 use Rattle.definitions.specs.Answers.{isNone}
 use Rattle.definitions.specs.Calls.{runRefusal}
 use Rattle.laws.specs.Refusal.{is-none}
-use Rattle.runner.specs.Runs.{accepted-sheet, sheet-accepted, sheet-refused, count-accepted, count-refused}
+use Rattle.runner.specs.Runs.{ran-on-sheet, sheet-run, sheet-refused, count-accepted, count-refused}
 use borrow.Author.Needs.{needs}
 use Rattle.runner.proofs.run.Statement.{statement}
 use Rattle.runner.proofs.run.Tie as tie
@@ -25,7 +25,7 @@ is-accepted-requires c κs = search needs
 run-orders-requires : tie.Need-run-orders-requires
 run-orders-requires c κs =
     let a = c .before .before .before .before .before .before .before .args in
-    accepted-sheet (a .sheet .now) (a .bytes .now) (is-none (runRefusal (a .sheet .now) (a .bytes .now)) (accepted (c .before)))
+    ran-on-sheet (a .sheet .now) (a .bytes .now) (is-none (runRefusal (a .sheet .now) (a .bytes .now)) (accepted (c .before)))
 
 same-length : tie.Need-same-length
 same-length c = search needs
@@ -36,7 +36,7 @@ returns c =
     let p = c .before .before .run-orders in
     let t = accepted (c .before .before .before .before) in (
       c .before .before .before .before .before .before .judge-run .ensures,
-      (p .ensures .0 ∙ sym (count-accepted (a .sheet .now) (a .bytes .now) t), p .ensures .1 ∙ sym (sheet-accepted (a .sheet .now) (a .bytes .now) t)),
+      (p .ensures .0 ∙ sym (count-accepted (a .sheet .now) (a .bytes .now) t), p .ensures .1 ∙ sym (sheet-run (a .sheet .now) (a .bytes .now) t)),
     )
 
 same-length-2 : tie.Need-same-length-2
