@@ -1,10 +1,12 @@
 -- The plan's length as the code counts it, and that its products are small.
-use mathlib.Core.Path.{_≡_, refl, sym}
-use Prim.Native.Nat.{ℕ, zero, suc, _+_, _*_, _^_, _≤_, _<_}
+use mathlib.Core.Path.{_≡_, refl, sym, _∙_}
+use Prim.Native.Nat.{ℕ, _+_, _*_, _^_, _≤_, _<_}
 use native.Mathlib.Omega.{arith}
 use native.Mathlib.Nat.{mul-le-mul}
-use mathlib.Core.List.{[], _∷_}
-use lib.ListN.{length, getD}
+use mathlib.Core.Bool.{cond}
+use lib.ListN.{length}
+use lib.Dec.{ltb}
+use borrow.Author.Tests.{lt-ltb, le-ltb}
 use Rattle.definitions.specs.Limits.{bidLimit, poolLimit}
 use Rattle.definitions.specs.Answers.{Refusal, none, refuse, unless}
 use Rattle.definitions.specs.Calls.{countsRefusal}
@@ -16,20 +18,23 @@ use Rattle.plan.specs.Plan.{planLength, plan, plan-length, power-small}
 pub product-small : (a b x y : ℕ) → a ≤ x → b ≤ y → a * b ≤ x * y
 product-small a b x y h k = mul-le-mul h k
 
--- the code's table of 2 to the m
-pub subsets-at : (m : ℕ) → m ≤ poolLimit → getD (1 ∷ 2 ∷ 4 ∷ 8 ∷ 16 ∷ []) m 0 ≡ 2 ^ m
-subsets-at zero h = refl
-subsets-at (suc zero) h = refl
-subsets-at (suc (suc zero)) h = refl
-subsets-at (suc (suc (suc zero))) h = refl
-subsets-at (suc (suc (suc (suc zero)))) h = refl
-subsets-at (suc (suc (suc (suc (suc m))))) h = absurd (omega arith)
+-- how many sets of pools there are, none for more pools than the limit
+unfoldable pub subsetCount : ℕ → ℕ
+subsetCount m = cond (ltb poolLimit m) 0 (2 ^ m)
+
+pub subsets-within : {m s : ℕ} → s ≡ subsetCount m → m ≤ poolLimit → s ≡ 2 ^ m
+unfolding subsetCount
+subsets-within e h = e ∙ simp (le-ltb _ _ h)
+
+pub subsets-beyond : (m : ℕ) → poolLimit < m → subsetCount m ≡ 0
+unfolding subsetCount
+subsets-beyond m h = simp (lt-ltb poolLimit m h)
 
 -- the products of the plan's length are small, for counts within their limits and s the count of sets
 abbrev pub LengthsFit : (n m s : ℕ) → Type 0
 LengthsFit n m s = (m * m ≤ 16) × (n * n ≤ 4096) × (n * n * (1 + 2 * m) ≤ 36864) × (n * (29 + 17 * m + 12 * s) ≤ 18496) × (s * (7 + 6 * (m * m)) ≤ 1648)
 
-pub lengths-fit : (n m s : ℕ) → n ≤ bidLimit → m ≤ poolLimit → s ≤ 16 → LengthsFit n m s
+pub lengths-fit : (n m s : ℕ) → n ≤ bidLimit → m ≤ poolLimit → s ≤ 2 ^ poolLimit → LengthsFit n m s
 lengths-fit n m s h k l =
     let lines : m * m ≤ 16 = mul-le-mul k k in
     let pairs : n * n ≤ 4096 = mul-le-mul h h in (

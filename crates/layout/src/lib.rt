@@ -8,6 +8,7 @@ ghost use Rattle.definitions.specs.Calls.{countsRefusal};
 ghost use Rattle.definitions.specs.Plan.{total};
 ghost use Rattle.plan.specs.Names.{rowTable, columnTable};
 ghost use Rattle.plan.specs.Plan.{plan};
+ghost use Rattle.layout.specs.Lengths.{subsetCount};
 ghost use Rattle.layout.specs.Tables.{AreStarts, StartsOrNone};
 use definitions::Limits;
 use definitions::is_accepted;
@@ -111,8 +112,15 @@ impl Family {
     pub const COUNT: usize = 30;
 }
 
-// 2 to the m, for each count of pools.
-const SUBSETS: [usize; 5] = [1, 2, 4, 8, 16];
+// 2 to the m: how many sets of pools there are; none where m is above its limit.
+pub fn subset_count(m: usize) -> usize
+    ensures { λ r. ⌜ (r ≡ subsetCount m) × (r ≤ 2 ^ poolLimit) ⌝ }
+{
+    if m <= Limits::POOLS {
+        return 1 << m;
+    }
+    0
+}
 
 // How many columns each family has, in the families' order.
 pub fn columns_of(m: usize) -> [usize; Family::COUNT]
@@ -158,7 +166,7 @@ fn rows_of(n: usize, m: usize) -> [usize; Family::COUNT]
     ensures { λ r. ⌜ r ≡ rowTable n m (m * m) (2 ^ m) ⌝ }
 {
     let lines = m * m;
-    let sets = SUBSETS[m];
+    let sets = subset_count(m);
     [
         n, // bids
         m, // capacities
@@ -228,7 +236,7 @@ fn length_within(n: usize, m: usize) -> usize
     requires { ⌜ 0 < m ⌝ }
     ensures { λ r. ⌜ r ≡ length (plan n m) ⌝ }
 {
-    let sets = SUBSETS[m];
+    let sets = subset_count(m);
     let lines = m * m;
     n * n * (1 + 2 * m)
         + n * (29 + 17 * m + 12 * sets)

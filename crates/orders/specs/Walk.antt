@@ -1,4 +1,4 @@
--- What a function of the code needs to know of the plan's tree, of its families and of powers of 2.
+-- What a function of the code needs to know of the plan's tree and of its families.
 use mathlib.Core.Path.{_≡_, refl, sym, ap, subst, _∙_}
 use mathlib.Core.Logic.{_≢_}
 use mathlib.Core.Bool.{Bool, true, false, cond}
@@ -26,11 +26,6 @@ use Rattle.plan.specs.Work.{rankSize, bidTree, cutsTree, rankTrees, flowTree, p
 use Rattle.plan.specs.Proper.{Valid, Proper, work-proper, work-fair}
 use Rattle.plan.specs.Plan.{from, from-scratch, names-fit, cellOf, plan, plan-length, plan-entry, workLength, workAt, orderAt, work-size}
 use Rattle.layout.specs.Tables.{from-next, from-small, IsLayout}
-
--- ---- powers of 2
-
-pub power-at : (m k : ℕ) → m ≡ k → 2 ^ k ≡ 2 ^ m
-power-at m k e = ap (λ (x : ℕ). 2 ^ x) (sym e)
 
 -- a family's table ends on the sheet
 pub table-fits : (n m u : ℕ) → n ≤ bidLimit → m ≤ poolLimit → u < familyCount → from n m u + rowsOf n m u * columnsOf n m u ≤ cellCount

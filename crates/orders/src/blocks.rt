@@ -10,8 +10,8 @@ use crate::names::Kind;
 use crate::names::NamedOrder;
 use crate::sets::is_leaving;
 use crate::sets::other_pools;
-use crate::sets::subset_count;
 use layout::Family;
+use layout::subset_count;
 
 // The size of bid i.
 pub fn size_order(i: usize, r: usize) -> NamedOrder

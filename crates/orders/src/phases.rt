@@ -23,9 +23,9 @@ use crate::names::CellName;
 use crate::names::Kind;
 use crate::names::NamedOrder;
 use crate::sets::lowest_pool;
-use crate::sets::subset_count;
 use definitions::Limits;
 use layout::Family;
+use layout::subset_count;
 
 // The constants, and each bid's own numbers.
 pub fn bid_order(n: usize, m: usize, x: usize) -> NamedOrder

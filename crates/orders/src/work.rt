@@ -12,7 +12,7 @@ use crate::phases::cuts_order;
 use crate::phases::flow_order;
 use crate::phases::prices_order;
 use crate::phases::ranks_order;
-use crate::sets::subset_count;
+use layout::subset_count;
 
 // How many orders the constants and the bids' own numbers take.
 fn bid_length(n: usize, m: usize) -> usize

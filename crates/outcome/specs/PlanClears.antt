@@ -10,28 +10,19 @@ use Rattle.definitions.specs.Calls.{AcceptedBook}
 use Rattle.definitions.specs.Outcome.{Outcome, resultOf, planRun}
 use Rattle.laws.specs.AcceptedBook.{Sound, accepted-sound}
 use Rattle.theory.specs.FlowOrder.{FirstFlows}
-use Rattle.theory.specs.ClosedBest.{used-size, placement-cut, taken-slack, closed-clearing, closed-price}
+use Rattle.theory.specs.ClosedBest.{closed-clearing, closed-price}
 use Rattle.plan.specs.Plan.{plan}
-use Rattle.plan.specs.Bounds.{Theory}
-use Rattle.plan.specs.Cleared.{Cleared, plan-clears}
+use Rattle.plan.specs.Cleared.{HoldsClearing, plan-clears}
 
 module _ (B : Book) (accepted : AcceptedBook B) where
   sound : Sound B
   sound = accepted-sound B accepted
 
-  -- what the plan's run takes from the theory
-  theory : Theory B
-  theory = record {
-    used-size = used-size B sound;
-    placement-cut = λ S l. placement-cut B sound S;
-    taken-slack = λ k S l r. taken-slack B sound k S l;
-  }
-
   abbrev left : List ℕ
   left = runOf (plan (B .n) (B .m)) (sealedSheet B)
 
-  cleared : Cleared B left
-  cleared = plan-clears B sound theory
+  cleared : HoldsClearing B left
+  cleared = plan-clears B sound
 
   clearing : Best B (resultOf B left) × Permitted B (resultOf B left) × FirstFlows B (resultOf B left)
   clearing = closed-clearing B accepted (resultOf B left) (cleared .amount-cells) (cleared .flow-cells)

@@ -1,25 +1,22 @@
 -- The phases that fill the constants and each bid's own numbers.
 use mathlib.Core.Path.{_≡_, refl, ap, _∙_}
-use mathlib.Core.Bool.{Bool, true, false}
+use mathlib.Core.Bool.{Bool}
 use mathlib.Core.List.{[], _∷_}
-use Prim.Native.Nat.{ℕ, suc, _+_, _*_, _≤_, _<_}
+use Prim.Native.Nat.{ℕ, suc, _*_, _<_}
 use native.Mathlib.Omega.{arith}
 use lib.Dec.{eqb, eqb·suc-suc, lit<}
 use Rattle.definitions.specs.Arithmetic.{on, residue}
 use lib.IntN.{ℤ}
 use Rattle.definitions.specs.Machine.{sameAs}
-use Rattle.definitions.specs.Book.{Book, pool, price, quantity, purchase, size}
+use Rattle.definitions.specs.Book.{Book, pool, price, quantity, size}
 use Rattle.laws.specs.AcceptedBook.{poolIndex, raisedPrice, Sound}
+use Rattle.theory.specs.ClosedBest.{key-small}
 use Rattle.plan.specs.Residues.{plus-small, times-on, positive-residue, size-residue, raise-residue}
 use Rattle.plan.specs.Loops.{loop, eqb-same}
 use Rattle.plan.specs.Holds.{Phase, fill-column, fill-cells}
 use Rattle.plan.specs.Names.{bids, zeroCells, units, shifts, poolNumbers, sides, sizes, positivePrices, doubles, keys, nexts, memberships, poolSizes, temporaries}
 use Rattle.plan.specs.Values.{tables, rate, side}
 use Rattle.plan.specs.Blocks.{unitBlock, shiftBlock, poolNumberBlock, sideBlock, sizeBlock, positivePriceBlock, doubleBlock, keyBlock, nextBlock, membershipBlock, poolSizeBlock}
-
-key-small : (t : Bool) (v : ℕ) → 2 * v + on t 1 ≤ 2 * v + 1
-key-small true v = omega arith
-key-small false v = omega arith
 
 module _ (B : Book) (sound : Sound B) where
   pub unit-phase : Phase (tables B) [] units [] (loop 1 unitBlock)
@@ -50,7 +47,7 @@ module _ (B : Book) (sound : Sound B) where
   pub key-phase : Phase (tables B) (doubles ∷ sides ∷ []) keys [] (loop (B .n) keyBlock)
   key-phase = fill-column (tables B) (doubles ∷ sides ∷ []) keys [] refl refl refl keyBlock (λ i. rw (eqb-same i))
       (λ i t l h. rw (eqb-same i, h doubles refl i 0 l (lit< tt), h sides refl i 0 l (lit< tt))
-      (plus-small (2 * rate B i) (side B i) (omega (arith, key-small (purchase B i) (rate B i), sound .price-small i l))))
+      (plus-small (2 * rate B i) (side B i) (omega (arith, key-small B sound i l))))
 
   pub next-phase : Phase (tables B) (doubles ∷ units ∷ []) nexts [] (loop (B .n) nextBlock)
   next-phase = fill-column (tables B) (doubles ∷ units ∷ []) nexts [] refl refl refl nextBlock (λ i. rw (eqb-same i))

@@ -1,14 +1,13 @@
--- The plan's blocks of orders, from the counts n and m only.
+-- The plan's smallest blocks of orders, each from the numbers of its bids, pools and sets only; the work puts them together.
 use mathlib.Core.Bool.{Bool, true, false, cond}
-use mathlib.Core.List.{List, [], _∷_, _++_}
-use Prim.Native.Nat.{ℕ, suc, _%_, _/_, _^_}
+use mathlib.Core.List.{List, [], _∷_}
+use Prim.Native.Nat.{ℕ, suc}
 use lib.Dec.{ltb}
-use Rattle.definitions.specs.Limits.{priceLimit, greatestPositive}
+use Rattle.definitions.specs.Limits.{priceLimit}
 use Rattle.plan.specs.Orders.{OrderOn, constant, sum, difference, product, less, equal, Name, at}
-use Rattle.plan.specs.Loops.{loop}
 use Rattle.plan.specs.Names.{units, shifts, Pool, Price, Quantity, Capacity, Amount, Flow, PoolPrice, Presence, Temporary, ZeroCell, One, Shift, PoolNumber, Side, Size, PositivePrice, Double, Key, Next, Membership, PoolSize, Demand, Subset, Cut, SizeBefore, RankBefore, SizeWith, RankWith, Used, Placement, Slack, Offer, HighestOffer}
 use Rattle.plan.specs.Subsets.{leaves, complement}
-use Rattle.plan.specs.Running.{lowered, raised, subsetBlock}
+use Rattle.plan.specs.Running.{lowered, raised}
 
 -- orders over names, one after another
 abbrev pub Block : Type 0
@@ -72,21 +71,9 @@ poolSizeBlock i p = product (PoolSize i p) (Membership i p) (Size i) ∷ []
 abbrev pub demandTurn : (p i : ℕ) → Block
 demandTurn p i = product (Temporary 0) (Side i) (PoolSize i p) ∷ sum (Demand p) (Demand p) (Temporary 0) ∷ []
 
--- the demand of pool p
-abbrev pub demandBlock : (n p : ℕ) → Block
-demandBlock n p = constant (Demand p) 0 ∷ loop n (demandTurn p)
-
--- the sums of cells X over all subsets
-abbrev pub subsetBlocks : (m : ℕ) → (ℕ → Name) → Block
-subsetBlocks m X = loop (2 ^ m) (subsetBlock m X)
-
 -- the zero cell where the line does not leave the set: every turn is one order
 abbrev pub cutTurn : (S a b : ℕ) → Block
 cutTurn S a b = sum (Cut S) (Cut S) (cond (leaves S a b) (Capacity a b) ZeroCell) ∷ []
-
--- the demands in set S, then the capacities of the lines that leave it
-abbrev pub cutBlock : (m S : ℕ) → Block
-cutBlock m S = sum (Cut S) (Subset S) ZeroCell ∷ loop m (λ a. loop m (cutTurn S a))
 
 -- ---- the ranks
 
@@ -104,41 +91,17 @@ testOrder i j = testAt (ltb j i) (ltb i j) i j
 abbrev pub gainTurn : (i j p : ℕ) → Block
 gainTurn i j p = product (Temporary 1) (Temporary 0) (PoolSize j p) ∷ sum (SizeBefore i p) (SizeBefore i p) (Temporary 1) ∷ []
 
--- bid j tested against bid i, and its gain in each pool
-abbrev pub sizeBeforeTurn : (m i j : ℕ) → Block
-sizeBeforeTurn m i j = testOrder i j ∷ loop m (gainTurn i j)
-
 -- 0 to start from
 abbrev pub sizeBeforeStart : (i p : ℕ) → Block
 sizeBeforeStart i p = constant (SizeBefore i p) 0 ∷ []
-
--- the sizes of all bids before bid i, pool by pool
-abbrev pub sizeBeforeBlock : (n m i : ℕ) → Block
-sizeBeforeBlock n m i = loop m (sizeBeforeStart i) ++ loop n (sizeBeforeTurn m i)
 
 -- lower d to what the set S costs: its cut, and the subset's sum outside it
 abbrev pub costTurn : (m : ℕ) (d : Name) (S : ℕ) → Block
 costTurn m d S = sum (Temporary 2) (Cut S) (Subset (complement m S)) ∷ lowered d (Temporary 2)
 
--- the least cost over all sets, in d
-abbrev pub costLoop : (m : ℕ) (d : Name) → Block
-costLoop m d = constant d greatestPositive ∷ loop (2 ^ m) (costTurn m d)
-
--- the rank of bids whose sizes stand in cells X, in d
-abbrev pub rankBlock : (m : ℕ) → (ℕ → Name) → (d : Name) → Block
-rankBlock m X d = subsetBlocks m X ++ costLoop m d
-
--- the rank of the bids before bid i
-abbrev pub rankBeforeBlock : (m i : ℕ) → Block
-rankBeforeBlock m i = rankBlock m (SizeBefore i) (RankBefore i)
-
 -- the sizes before bid i and its own
 abbrev pub sizeWithBlock : (i p : ℕ) → Block
 sizeWithBlock i p = sum (SizeWith i p) (SizeBefore i p) (PoolSize i p) ∷ []
-
--- the rank of bid i and the bids before it
-abbrev pub rankWithBlock : (m i : ℕ) → Block
-rankWithBlock m i = rankBlock m (SizeWith i) (RankWith i)
 
 -- ---- the amounts
 
@@ -160,10 +123,6 @@ amountBlock i =
 -- the used amount of bid i, if it is in pool p, added to the pool's
 abbrev pub placementTurn : (p i : ℕ) → Block
 placementTurn p i = product (Temporary 0) (Membership i p) (Used i) ∷ sum (Placement p) (Placement p) (Temporary 0) ∷ []
-
--- what is used in pool p
-abbrev pub placementBlock : (n p : ℕ) → Block
-placementBlock n p = constant (Placement p) 0 ∷ loop n (placementTurn p)
 
 -- the slack of set S before any line has its flow
 abbrev pub slackBlock : ℕ → Block
@@ -188,18 +147,6 @@ takenCell false false l = ZeroCell
 abbrev pub takeTurn : (l a b S : ℕ) → Block
 takeTurn l a b S = difference (Slack S) (Slack S) (takenCell (leaves S a b) (leaves S b a) l) ∷ []
 
--- what line a to b leaves unused, in the third temporary
-abbrev pub restPart : (m a b : ℕ) → Block
-restPart m a b = sum (Temporary 2) (Capacity a b) ZeroCell ∷ loop (2 ^ m) (restTurn a b)
-
--- the flow of line l, a to b, and the slacks after it
-abbrev pub flowPart : (m l a b : ℕ) → Block
-flowPart m l a b = difference (Flow l) (Capacity a b) (Temporary 2) ∷ loop (2 ^ m) (takeTurn l a b)
-
--- line l, from pool l / m to pool l % m
-abbrev pub lineBlock : (m l : ℕ) → Block
-lineBlock m l = restPart m (l / m) (l % m) ++ flowPart m l (l / m) (l % m)
-
 -- ---- the prices
 
 -- the positive price of bid i, if it is a sale accepted above 0
@@ -214,10 +161,6 @@ offerBlock i =
 -- one step of the greatest: the offer of bid i if it is in pool p
 abbrev pub highestOfferTurn : (p i : ℕ) → Block
 highestOfferTurn p i = product (Temporary 2) (Membership i p) (Offer i) ∷ raised (HighestOffer p) (Temporary 2)
-
--- the highest offer in pool p
-abbrev pub highestOfferBlock : (n p : ℕ) → Block
-highestOfferBlock n p = constant (HighestOffer p) 0 ∷ loop n (highestOfferTurn p)
 
 -- has pool p an offer? The highest, without the shift, is its price
 abbrev pub priceBlock : ℕ → Block

@@ -25,8 +25,7 @@ use Rattle.plan.specs.Layout.{address-below, address-apart}
 use Rattle.laws.specs.Run.{run-append}
 use Rattle.plan.specs.Simulation.{run-length, run-other, AllNamed, run-agrees}
 use Rattle.plan.specs.Tree.{flat, all-imply, every-flat}
-use Rattle.plan.specs.Values.{tables, acceptedAmount, lineFlow, priceCells}
-use Rattle.plan.specs.Bounds.{Theory}
+use Rattle.plan.specs.Values.{tables, acceptedAmount, lineFlow, closedPrice, closedPresence}
 use Rattle.plan.specs.Work.{work}
 use Rattle.plan.specs.Whole.{outputs, work-done}
 use Rattle.plan.specs.Proper.{Valid, Proper, work-proper}
@@ -34,13 +33,13 @@ use Rattle.plan.specs.Plan.{from, from-scratch, from-end, cellOf, scratc
 use Rattle.plan.specs.Sealed.{sealedState, sealed-length, sealed-zero, sealed-inputs}
 
 -- what the sheet r holds when book B is cleared, by document 01's cells
-pub record Cleared (B : Book) (r : List ℕ) : Type 0 where
+pub record HoldsClearing (B : Book) (r : List ℕ) : Type 0 where
   pub length-kept : length r ≡ cellCount
   pub inputs-kept : (c : ℕ) → c < firstResult (B .n) (B .m) → cell r c ≡ cell (sealedSheet B) c
   pub amount-cells : (i : ℕ) → i < B .n → cell r (amountCell (B .n) (B .m) i) ≡ acceptedAmount B i
   pub flow-cells : (a b : ℕ) → a < B .m → b < B .m → cell r (flowCell (B .n) (B .m) a b) ≡ lineFlow B (a * B .m + b)
-  pub price-cells : (p : ℕ) → p < B .m → cell r (priceCell (B .n) (B .m) p) ≡ priceCells B p 0
-  pub presence-cells : (p : ℕ) → p < B .m → cell r (presenceCell (B .n) (B .m) p) ≡ priceCells B p 1
+  pub price-cells : (p : ℕ) → p < B .m → cell r (priceCell (B .n) (B .m) p) ≡ closedPrice B p
+  pub presence-cells : (p : ℕ) → p < B .m → cell r (presenceCell (B .n) (B .m) p) ≡ closedPresence B p
   pub scratch-zero : (c : ℕ) → firstScratch (B .n) (B .m) ≤ c → cell r c ≡ 0
 
 run-parts : (x y : List (OrderOn ℕ)) (s : List ℕ) → runOf (map orderOf (x ++ y)) s ≡ runOf (map orderOf y) (runOf (map orderOf x) s)
@@ -81,7 +80,7 @@ proper-named : (n m : ℕ) (o : OrderOn Name) → Proper n m o → AllNamed (Val
 proper-named n m (constant d k) h = h .0
 proper-named n m (operate op d a b) h = (h .0, h .2, h .3)
 
-module _ (B : Book) (sound : Sound B) (theory : Theory B) where
+module _ (B : Book) (sound : Sound B) where
   -- the sheet that the plan begins with
   abbrev sealed : List ℕ
   sealed = sealedSheet B
@@ -136,7 +135,7 @@ module _ (B : Book) (sound : Sound B) (theory : Theory B) where
       ∙ zeroed-out (B .n) (B .m) (scratchCount (B .n) (B .m)) worked c
       (λ k _. omega (arith, from-scratch (B .n) (B .m), address-below (rowsOf (B .n) (B .m)) (columnsOf (B .n) (B .m)) temporaries (at t i j) (l, a, b)))
       ∙ worked-value (at t i j) (omega arith, a, b)
-      ∙ work-done B sound theory (sealedState B sound) (sealed-inputs B sound) t e i j a b
+      ∙ work-done B sound (sealedState B sound) (sealed-inputs B sound) t e i j a b
 
   at-cell : (x y v : ℕ) → x ≡ y → cell clearedSheet x ≡ v → cell clearedSheet y ≡ v
   at-cell x y v e h = rw (← e) h
@@ -154,7 +153,7 @@ module _ (B : Book) (sound : Sound B) (theory : Theory B) where
   unfolding plan
   cleared-length = run-length (numbered (B .n) (B .m)) sealed ∙ sealed-length B sound
 
-  pub plan-clears : Cleared B (runOf (plan (B .n) (B .m)) (sealedSheet B))
+  pub plan-clears : HoldsClearing B (runOf (plan (B .n) (B .m)) (sealedSheet B))
   unfolding sumTo
   plan-clears = record {
     length-kept = cleared-length;

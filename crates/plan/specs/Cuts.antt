@@ -10,6 +10,7 @@ use Rattle.definitions.specs.Limits.{modulus}
 use Rattle.definitions.specs.Arithmetic.{on, sumTo}
 use Rattle.definitions.specs.Book.{Book, purchase, capacity}
 use Rattle.laws.specs.AcceptedBook.{Sound}
+use Rattle.theory.specs.ClosedBest.{demand-small, cut-small}
 use Rattle.plan.specs.Orders.{constant, sum, Name, run, State}
 use Rattle.plan.specs.Residues.{plus-small, times-on}
 use Rattle.plan.specs.Loops.{loop, among, writes, writes-loop, keep, eqb-same}
@@ -18,23 +19,24 @@ use Rattle.plan.specs.Names.{capacities, zeroCells, sides, poolSizes, de
 use Rattle.plan.specs.Subsets.{leaves, subsetSum}
 use Rattle.plan.specs.Running.{Adds, accumulate, gather, subsetBlock, subset-frame, subset-sums}
 use Rattle.plan.specs.Values.{tables, weight, demand, cut}
-use Rattle.plan.specs.Blocks.{demandTurn, demandBlock, subsetBlocks, cutTurn, cutBlock}
-use Rattle.plan.specs.Bounds.{weight-small, demand-small, demands-small, cut-small}
+use Rattle.plan.specs.Blocks.{demandTurn, cutTurn}
+use Rattle.plan.specs.Work.{demandBlock, subsetBlocks, cutBlock}
+use Rattle.plan.specs.Bounds.{weight-small, demands-small}
 
 -- a cell, or the zero cell where the test fails
 pub chosen : (t : State) (x : Bool) (c : Name) (v : ℕ) → t ZeroCell ≡ 0 → t c ≡ v → t (cond x c ZeroCell) ≡ on x v
 chosen t true c v e f = f
 chosen t false c v e f = e
 
-pub subsets-frame : (m : ℕ) (X : ℕ → Name) → writes (among (subsets ∷ [])) (subsetBlocks m X) ≡ true
-subsets-frame m X = writes-loop _ (2 ^ m) (subsetBlock m X) (λ S _. subset-frame m X S)
+pub subsets-frame : (n m : ℕ) (X : ℕ → Name) → writes (among (subsets ∷ [])) (subsetBlocks n m X) ≡ true
+subsets-frame n m X = writes-loop _ (2 ^ m) (subsetBlock m X) (λ S _. subset-frame m X S)
 
 module _ (B : Book) (sound : Sound B) where
   -- what a demand reads
   abbrev Sides : State → Type 0
   Sides = Holds (tables B) (sides ∷ poolSizes ∷ [])
 
-  demand-value : (p : ℕ) (t : State) → p < B .m → Sides t → run (demandBlock (B .n) p) t (Demand p) ≡ demand B p
+  demand-value : (p : ℕ) (t : State) → p < B .m → Sides t → run (demandBlock (B .n) (B .m) p) t (Demand p) ≡ demand B p
   unfolding demand
   demand-value p t b h =
       gather Sides (Demand p) (loop (B .n) (demandTurn p)) (demand B p)
@@ -47,8 +49,8 @@ module _ (B : Book) (sound : Sound B) where
       )))
       t h (omega (arith, demand-small B sound p)) .1
 
-  pub demand-phase : Phase (tables B) (sides ∷ poolSizes ∷ []) demands (temporaries ∷ []) (loop (B .m) (demandBlock (B .n)))
-  demand-phase = fill-column (tables B) (sides ∷ poolSizes ∷ []) demands (temporaries ∷ []) refl refl refl (demandBlock (B .n))
+  pub demand-phase : Phase (tables B) (sides ∷ poolSizes ∷ []) demands (temporaries ∷ []) (loop (B .m) (demandBlock (B .n) (B .m)))
+  demand-phase = fill-column (tables B) (sides ∷ poolSizes ∷ []) demands (temporaries ∷ []) refl refl refl (demandBlock (B .n) (B .m))
       (λ p. rw (eqb-same p) (writes-loop _ (B .n) (demandTurn p) (λ i _. rw (eqb-same p)))) demand-value
 
   -- what a cut reads of the lines
@@ -65,7 +67,7 @@ module _ (B : Book) (sound : Sound B) where
     rw (eqb-same S, chosen r (leaves S a b) (Capacity a b) (capacity B a b) (g zeroCells refl 0 0 (lit< tt) (lit< tt)) (g capacities refl a b x y)) (plus-small (r (Cut S)) _ c),
   )
 
-  cut-value : (S : ℕ) (t : State) → S < 2 ^ B .m → Summed t → run (cutBlock (B .m) S) t (Cut S) ≡ cut B S
+  cut-value : (S : ℕ) (t : State) → S < 2 ^ B .m → Summed t → run (cutBlock (B .n) (B .m) S) t (Cut S) ≡ cut B S
   unfolding cut
   cut-value S t l h =
       let u : State = run (sum (Cut S) (Subset S) ZeroCell ∷ []) t in
@@ -78,20 +80,20 @@ module _ (B : Book) (sound : Sound B) where
       u (holds-keep (tables B) (cuts ∷ []) (capacities ∷ zeroCells ∷ []) refl (sum (Cut S) (Subset S) ZeroCell ∷ []) refl t (h .0)) (omega arith) .1 in
       r ∙ ap (λ (v : ℕ). v + sumTo (B .m) (λ a. sumTo (B .m) (λ b. on (leaves S a b) (capacity B a b)))) e
 
-  cut-frame : (S : ℕ) → writes (among (cuts ∷ [])) (cutBlock (B .m) S) ≡ true
+  cut-frame : (S : ℕ) → writes (among (cuts ∷ [])) (cutBlock (B .n) (B .m) S) ≡ true
   cut-frame S = writes-loop _ (B .m) _ (λ a _. writes-loop _ (B .m) _ (λ b _. refl))
 
-  pub cut-phase : Phase (tables B) (demands ∷ capacities ∷ zeroCells ∷ []) cuts (subsets ∷ []) (subsetBlocks (B .m) Demand ++ loop (2 ^ B .m) (cutBlock (B .m)))
+  pub cut-phase : Phase (tables B) (demands ∷ capacities ∷ zeroCells ∷ []) cuts (subsets ∷ []) (subsetBlocks (B .n) (B .m) Demand ++ loop (2 ^ B .m) (cutBlock (B .n) (B .m)))
   cut-phase =
-      fill-after (tables B) (demands ∷ capacities ∷ zeroCells ∷ []) cuts (subsets ∷ []) refl refl (subsetBlocks (B .m) Demand) (cutBlock (B .m)) Summed (subsets-frame (B .m) Demand)
+      fill-after (tables B) (demands ∷ capacities ∷ zeroCells ∷ []) cuts (subsets ∷ []) refl refl (subsetBlocks (B .n) (B .m) Demand) (cutBlock (B .n) (B .m)) Summed (subsets-frame (B .n) (B .m) Demand)
       (λ S. rw (eqb-same S) (writes-loop _ (B .m) _ (λ a _. writes-loop _ (B .m) _ (λ b _. rw (eqb-same S)))))
       (λ s h. (
-        holds-keep (tables B) (subsets ∷ []) (capacities ∷ zeroCells ∷ []) refl (subsetBlocks (B .m) Demand) (subsets-frame (B .m) Demand) s
+        holds-keep (tables B) (subsets ∷ []) (capacities ∷ zeroCells ∷ []) refl (subsetBlocks (B .n) (B .m) Demand) (subsets-frame (B .n) (B .m) Demand) s
             (holds-part (tables B) (demands ∷ capacities ∷ zeroCells ∷ []) (capacities ∷ zeroCells ∷ []) refl s h),
         subset-sums (B .m) Demand (λ p. refl) (demand B) (omega (arith, demands-small B sound)) s (λ p b. h demands refl p 0 b (lit< tt)),
       ))
       (λ S t l h. (
-        holds-keep (tables B) (cuts ∷ []) (capacities ∷ zeroCells ∷ []) refl (cutBlock (B .m) S) (cut-frame S) t (h .0),
-        λ R a. keep (among (cuts ∷ [])) (cutBlock (B .m) S) (Subset R) t (cut-frame S) refl ∙ h .1 R a,
+        holds-keep (tables B) (cuts ∷ []) (capacities ∷ zeroCells ∷ []) refl (cutBlock (B .n) (B .m) S) (cut-frame S) t (h .0),
+        λ R a. keep (among (cuts ∷ [])) (cutBlock (B .n) (B .m) S) (Subset R) t (cut-frame S) refl ∙ h .1 R a,
       ))
       (λ S j t a b h. rw (lt-one b) (cut-value S t a h))

@@ -8,7 +8,7 @@ use lib.Dec.{eqb}
 use lib.Arith.{lt-one}
 use borrow.Author.Tests.{eqb-true, ne-eqb}
 use Rattle.plan.specs.Orders.{OrderOn, Name, at, family, row, same, State, run}
-use Rattle.plan.specs.Loops.{loop, run-append, loop-invariant, listed, among, writes, writes-append, writes-loop, writes-more, eqb-same, keep, loop-only}
+use Rattle.plan.specs.Loops.{loop, named-run-append, loop-invariant, listed, among, writes, writes-append, writes-loop, writes-more, eqb-same, keep, loop-only}
 
 -- ---- lists of families
 
@@ -95,7 +95,7 @@ module _ (T : Tables) where
     pub done : (s : State) → Holds ts s → Holds us (run l s)
 
   pub then : {ts us vs : List ℕ} {x y : List (OrderOn Name)} → Step ts us x → Step us vs y → Step ts vs (x ++ y)
-  then {x} {y} p q = record { done = λ s h. rw (run-append x y s) (q .done (run x s) (p .done s h)) }
+  then {x} {y} p q = record { done = λ s h. rw (named-run-append x y s) (q .done (run x s) (p .done s h)) }
 
   -- less may be claimed
   pub step-part : {ts us : List ℕ} {x : List (OrderOn Name)} (vs : List ℕ) → Step ts us x → part-of us vs ≡ true → Step ts vs x
@@ -153,7 +153,7 @@ module _ (T : Tables) (reads : List ℕ) (u : ℕ) (ws : List ℕ) (clear : apar
       → Phase T reads u ws (first ++ loop (T .rows u) f)
   fill-after first f J begins touch start stays value = record {
     fills = λ s h i j a b.
-        ap (λ (r : State). r (at u i j)) (run-append first (loop (T .rows u) f) s)
+        ap (λ (r : State). r (at u i j)) (named-run-append first (loop (T .rows u) f) s)
         ∙ loop-only (T .rows u) f (at u i j) (run first s) i a (λ k t _ ne. keep (touches u k ws) (f k) (at u i j) t (touch k) (rw (new, eqb-same u, ne-eqb k i ne)))
         ∙ value i j (run (loop i f) (run first s)) a b (loop-invariant (λ k t. J t) i f (run first s) (start s h) (λ k t l. stays k t (omega arith)));
     frame = writes-append (among (u ∷ ws)) first (loop (T .rows u) f) (writes-more (among ws) (among (u ∷ ws)) (λ c. more (eqb u (family c)) (among ws c)) first begins)

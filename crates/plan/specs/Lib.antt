@@ -20,6 +20,8 @@ pub mod Work
 pub mod Whole
 pub mod Layout
 pub mod Simulation
+pub mod Numbered
+pub mod AnExample
 pub mod Proper
 pub mod Plan
 pub mod Sealed

@@ -12,19 +12,21 @@ use borrow.Author.Tests.{ne-eqb}
 use Rattle.definitions.specs.Limits.{poolLimit}
 use Rattle.definitions.specs.Arithmetic.{on, sumTo}
 use Rattle.definitions.specs.Book.{Book, capacity}
-use Rattle.laws.specs.Extremes.{minTo, min-le-start}
+use Rattle.laws.specs.Extremes.{minTo}
 use Rattle.laws.specs.AcceptedBook.{poolIndex, Sound}
+use Rattle.theory.specs.ClosedBest.{sizeTotal, amountLimit, placement-small, placement-cut, cut-small, slack-small, taken-slack, flow-and-rest}
 use Rattle.plan.specs.Orders.{constant, sum, difference, Name, same, run, State}
 use Rattle.plan.specs.Residues.{plus-small, minus-small, times-on, min-small}
-use Rattle.plan.specs.Loops.{loop, run-append, loop-invariant, among, writes, writes-append, writes-loop, keep, keep-loop, eqb-same, loop-own}
+use Rattle.plan.specs.Loops.{loop, named-run-append, loop-invariant, among, writes, writes-append, writes-loop, keep, keep-loop, eqb-same, loop-own}
 use Rattle.plan.specs.Holds.{Holds, Phase, holds-keep, holds-part, fill-column, fill-after}
 use Rattle.plan.specs.Names.{capacities, zeroCells, memberships, subsets, cuts, uses, placements, slacks, flows, temporaries, ZeroCell, Temporary, Capacity, Flow, Subset, Placement, Slack}
 use Rattle.plan.specs.Subsets.{leaves, subsetSum}
 use Rattle.plan.specs.Running.{accumulate, gather, Lowers, lower, lowered, subset-sums}
 use Rattle.plan.specs.Values.{tables, cut, usedAmount, placement, slack, restOf, flowOf, takenOf, slackAfter, lineFlow}
-use Rattle.plan.specs.Blocks.{Block, placementTurn, placementBlock, subsetBlocks, slackBlock, restCell, restTurn, takenCell, takeTurn, restPart, flowPart, lineBlock}
+use Rattle.plan.specs.Blocks.{Block, placementTurn, slackBlock, restCell, restTurn, takenCell, takeTurn}
+use Rattle.plan.specs.Work.{placementBlock, subsetBlocks, restBlock, takeBlock, lineBlock}
 use Rattle.plan.specs.Cuts.{subsets-frame}
-use Rattle.plan.specs.Bounds.{Theory, sizeTotal, cutTotal, sum-limit, cut-small, slack-after-small, used-small, placement-small}
+use Rattle.plan.specs.Bounds.{sum-limit, used-small}
 
 -- the ends of line l are pools
 pub line-ends : (m l : ℕ) → l < m * m → (l / m < m) × (l % m < m)
@@ -32,24 +34,24 @@ line-ends zero l h = absurd (omega arith)
 line-ends (suc m) l h = let positive : 0 < suc m = omega arith in (div-lt-iff-lt-mul positive .1 h, mod-lt l positive)
 
 -- what a line writes: of the flows only its own
-line-frame : (m l a b : ℕ) → writes (among (flows ∷ temporaries ∷ slacks ∷ [])) (restPart m a b ++ flowPart m l a b) ≡ true
-line-frame m l a b =
+line-frame : (n m l a b : ℕ) → writes (among (flows ∷ temporaries ∷ slacks ∷ [])) (restBlock n m a b ++ takeBlock n m l a b) ≡ true
+line-frame n m l a b =
     let W : Name → Bool = among (flows ∷ temporaries ∷ slacks ∷ []) in
-    writes-append W (restPart m a b) (flowPart m l a b) (writes-loop W (2 ^ m) (restTurn a b) (λ _ _. refl)) (writes-loop W (2 ^ m) (takeTurn l a b) (λ _ _. refl))
+    writes-append W (restBlock n m a b) (takeBlock n m l a b) (writes-loop W (2 ^ m) (restTurn a b) (λ _ _. refl)) (writes-loop W (2 ^ m) (takeTurn l a b) (λ _ _. refl))
 
-line-off : (m l a b k : ℕ) → k ≢ l → writes (λ c. not (same (Flow k) c)) (restPart m a b ++ flowPart m l a b) ≡ true
-line-off m l a b k h =
+line-off : (n m l a b k : ℕ) → k ≢ l → writes (λ c. not (same (Flow k) c)) (restBlock n m a b ++ takeBlock n m l a b) ≡ true
+line-off n m l a b k h =
     let W : Name → Bool = λ c. not (same (Flow k) c) in
-    writes-append W (restPart m a b) (flowPart m l a b) (writes-loop W (2 ^ m) (restTurn a b) (λ _ _. refl)) (rw (ne-eqb k l h) (writes-loop W (2 ^ m) (takeTurn l a b) (λ _ _. refl)))
+    writes-append W (restBlock n m a b) (takeBlock n m l a b) (writes-loop W (2 ^ m) (restTurn a b) (λ _ _. refl)) (rw (ne-eqb k l h) (writes-loop W (2 ^ m) (takeTurn l a b) (λ _ _. refl)))
 
-module _ (B : Book) (sound : Sound B) (theory : Theory B) where
+module _ (B : Book) (sound : Sound B) where
   -- ---- what is used in each pool
 
   -- what a placement reads
   abbrev Amounts : State → Type 0
   Amounts = Holds (tables B) (memberships ∷ uses ∷ [])
 
-  placement-value : (p : ℕ) (t : State) → p < B .m → Amounts t → run (placementBlock (B .n) p) t (Placement p) ≡ placement B p
+  placement-value : (p : ℕ) (t : State) → p < B .m → Amounts t → run (placementBlock (B .n) (B .m) p) t (Placement p) ≡ placement B p
   unfolding placement
   placement-value p t b h =
       gather Amounts (Placement p) (loop (B .n) (placementTurn p)) (placement B p)
@@ -57,13 +59,13 @@ module _ (B : Book) (sound : Sound B) (theory : Theory B) where
       (accumulate Amounts (Placement p) (B .n) (placementTurn p) (λ i. on (eqb (poolIndex B i) p) (usedAmount B i))
       (λ i l r g c. (
         holds-keep (tables B) (placements ∷ temporaries ∷ []) (memberships ∷ uses ∷ []) refl (placementTurn p i) refl r g,
-        rw (eqb-same p, g memberships refl i p l b, g uses refl i 0 l (lit< tt), times-on (eqb (poolIndex B i) p) (usedAmount B i) (omega (arith, used-small B sound theory i l)))
+        rw (eqb-same p, g memberships refl i p l b, g uses refl i 0 l (lit< tt), times-on (eqb (poolIndex B i) p) (usedAmount B i) (omega (arith, used-small B sound i l)))
             (plus-small (r (Placement p)) (on (eqb (poolIndex B i) p) (usedAmount B i)) c),
       )))
-      t h (omega (arith, placement-small B sound theory p)) .1
+      t h (omega (arith, placement-small B sound p)) .1
 
-  pub placement-phase : Phase (tables B) (memberships ∷ uses ∷ []) placements (temporaries ∷ []) (loop (B .m) (placementBlock (B .n)))
-  placement-phase = fill-column (tables B) (memberships ∷ uses ∷ []) placements (temporaries ∷ []) refl refl refl (placementBlock (B .n))
+  pub placement-phase : Phase (tables B) (memberships ∷ uses ∷ []) placements (temporaries ∷ []) (loop (B .m) (placementBlock (B .n) (B .m)))
+  placement-phase = fill-column (tables B) (memberships ∷ uses ∷ []) placements (temporaries ∷ []) refl refl refl (placementBlock (B .n) (B .m))
       (λ p. rw (eqb-same p) (writes-loop _ (B .n) (placementTurn p) (λ i _. rw (eqb-same p)))) placement-value
 
   -- ---- the slacks before the first line
@@ -73,20 +75,20 @@ module _ (B : Book) (sound : Sound B) (theory : Theory B) where
   Summed t = Holds (tables B) (cuts ∷ []) t × ((S : ℕ) → S < 2 ^ B .m → t (Subset S) ≡ subsetSum (B .m) (placement B) S)
 
   placements-small : sumTo (B .m) (placement B) ≤ poolLimit * sizeTotal
-  placements-small = sum-limit (B .m) poolLimit (placement B) sizeTotal (sound .pools) (λ p _. placement-small B sound theory p)
+  placements-small = sum-limit (B .m) poolLimit (placement B) sizeTotal (sound .pools) (λ p _. placement-small B sound p)
 
-  pub slack-phase : Phase (tables B) (placements ∷ cuts ∷ []) slacks (subsets ∷ []) (subsetBlocks (B .m) Placement ++ loop (2 ^ B .m) slackBlock)
+  pub slack-phase : Phase (tables B) (placements ∷ cuts ∷ []) slacks (subsets ∷ []) (subsetBlocks (B .n) (B .m) Placement ++ loop (2 ^ B .m) slackBlock)
   unfolding slack
   slack-phase =
-      fill-after (tables B) (placements ∷ cuts ∷ []) slacks (subsets ∷ []) refl refl (subsetBlocks (B .m) Placement) slackBlock Summed (subsets-frame (B .m) Placement)
+      fill-after (tables B) (placements ∷ cuts ∷ []) slacks (subsets ∷ []) refl refl (subsetBlocks (B .n) (B .m) Placement) slackBlock Summed (subsets-frame (B .n) (B .m) Placement)
       (λ S. rw (eqb-same S))
       (λ s h. (
-        holds-keep (tables B) (subsets ∷ []) (cuts ∷ []) refl (subsetBlocks (B .m) Placement) (subsets-frame (B .m) Placement) s (holds-part (tables B) (placements ∷ cuts ∷ []) (cuts ∷ []) refl s h),
+        holds-keep (tables B) (subsets ∷ []) (cuts ∷ []) refl (subsetBlocks (B .n) (B .m) Placement) (subsets-frame (B .n) (B .m) Placement) s (holds-part (tables B) (placements ∷ cuts ∷ []) (cuts ∷ []) refl s h),
         subset-sums (B .m) Placement (λ p. refl) (placement B) (omega (arith, placements-small)) s (λ p b. h placements refl p 0 b (lit< tt)),
       ))
       (λ S t l h. (holds-keep (tables B) (slacks ∷ []) (cuts ∷ []) refl (slackBlock S) refl t (h .0), λ R a. h .1 R a))
       (λ S j t a b h. rw (lt-one b, eqb-same S, h .0 cuts refl S 0 a (lit< tt), h .1 S a)
-      (minus-small (cut B S) (subsetSum (B .m) (placement B) S) (omega (arith, cut-small B sound S)) (theory .placement-cut S a)))
+      (minus-small (cut B S) (subsetSum (B .m) (placement B) S) (omega (arith, cut-small B sound S)) (placement-cut B sound S)))
 
   -- ---- one line, a to b, with slacks x
 
@@ -94,7 +96,7 @@ module _ (B : Book) (sound : Sound B) (theory : Theory B) where
   abbrev lineReads : List ℕ
   lineReads = capacities ∷ zeroCells ∷ []
 
-  module _ (x : ℕ → ℕ) (l a b : ℕ) (la : a < B .m) (lb : b < B .m) (small : (S : ℕ) → x S ≤ cutTotal) (fits : (S : ℕ) → S < 2 ^ B .m → takenOf B x a b S ≤ x S) where
+  module _ (x : ℕ → ℕ) (l a b : ℕ) (la : a < B .m) (lb : b < B .m) (small : (S : ℕ) → x S ≤ amountLimit) (fits : (S : ℕ) → S < 2 ^ B .m → takenOf B x a b S ≤ x S) where
     -- that, and slacks x
     abbrev Slacks : State → Type 0
     Slacks t = Holds (tables B) lineReads t × ((S : ℕ) → S < 2 ^ B .m → t (Slack S) ≡ x S)
@@ -112,7 +114,7 @@ module _ (B : Book) (sound : Sound B) (theory : Theory B) where
         go true = rw (g .1 S c) (min-small (t (Temporary 2)) (x S) h (omega (arith, small S)))
         go false = rw (g .0 capacities refl a b la lb) (min-small (t (Temporary 2)) (capacity B a b) h (omega (arith, sound .capacity-small a b la lb)))
 
-    rest-value : (t : State) → Slacks t → Slacks (run (restPart (B .m) a b) t) × (run (restPart (B .m) a b) t (Temporary 2) ≡ restOf B x a b)
+    rest-value : (t : State) → Slacks t → Slacks (run (restBlock (B .n) (B .m) a b) t) × (run (restBlock (B .n) (B .m) a b) t (Temporary 2) ≡ restOf B x a b)
     unfolding restOf
     rest-value t g =
         let one : Block = sum (Temporary 2) (Capacity a b) ZeroCell ∷ [] in
@@ -144,21 +146,17 @@ module _ (B : Book) (sound : Sound B) (theory : Theory B) where
         taken false true = kept (Flow l) refl ∙ f
         taken false false = kept ZeroCell refl ∙ g .0 zeroCells refl 0 0 (lit< tt) (lit< tt)
 
-    rest-le : restOf B x a b ≤ capacity B a b
-    unfolding restOf
-    rest-le = min-le-start (capacity B a b) (2 ^ B .m) _
-
     take-frame : writes (among (slacks ∷ [])) (loop (2 ^ B .m) (takeTurn l a b)) ≡ true
     take-frame = writes-loop _ (2 ^ B .m) (takeTurn l a b) (λ _ _. refl)
 
     flow-value : (t : State) → Slacks t → t (Temporary 2) ≡ restOf B x a b
-        → (run (flowPart (B .m) l a b) t (Flow l) ≡ flowOf B x a b) × ((S : ℕ) → S < 2 ^ B .m → run (flowPart (B .m) l a b) t (Slack S) ≡ x S - takenOf B x a b S)
+        → (run (takeBlock (B .n) (B .m) l a b) t (Flow l) ≡ flowOf B x a b) × ((S : ℕ) → S < 2 ^ B .m → run (takeBlock (B .n) (B .m) l a b) t (Slack S) ≡ x S - takenOf B x a b S)
     unfolding flowOf
     flow-value t g r =
         let one : Block = difference (Flow l) (Capacity a b) (Temporary 2) ∷ [] in
         let u : State = run one t in
         let e : u (Flow l) ≡ flowOf B x a b
-        = rw (eqb-same l, g .0 capacities refl a b la lb, r) (minus-small (capacity B a b) (restOf B x a b) (omega (arith, sound .capacity-small a b la lb)) rest-le) in (
+        = rw (eqb-same l, g .0 capacities refl a b la lb, r) (minus-small (capacity B a b) (restOf B x a b) (omega (arith, sound .capacity-small a b la lb)) (omega (arith, flow-and-rest B sound x a b))) in (
           keep (among (slacks ∷ [])) (loop (2 ^ B .m) (takeTurn l a b)) (Flow l) u take-frame refl ∙ e,
           take-value u (slacks-keep one refl t g) r e,
         )
@@ -169,7 +167,7 @@ module _ (B : Book) (sound : Sound B) (theory : Theory B) where
   abbrev Fixed : ℕ → State → Type 0
   Fixed k t = Holds (tables B) lineReads t × ((S : ℕ) → S < 2 ^ B .m → t (Slack S) ≡ slackAfter B k S) × ((q : ℕ) → q < k → t (Flow q) ≡ lineFlow B q)
 
-  line-turn : (l : ℕ) (t : State) → l < B .m * B .m → Fixed l t → Fixed (suc l) (run (lineBlock (B .m) l) t)
+  line-turn : (l : ℕ) (t : State) → l < B .m * B .m → Fixed l t → Fixed (suc l) (run (lineBlock (B .n) (B .m) l) t)
   unfolding slackAfter
   line-turn l t h i =
       let a : ℕ = l / B .m in
@@ -177,28 +175,28 @@ module _ (B : Book) (sound : Sound B) (theory : Theory B) where
       let x : ℕ → ℕ = slackAfter B l in
       let la : a < B .m = line-ends (B .m) l h .0 in
       let lb : b < B .m = line-ends (B .m) l h .1 in
-      let small : (S : ℕ) → x S ≤ cutTotal = slack-after-small B sound l in
-      let fits : (S : ℕ) → S < 2 ^ B .m → takenOf B x a b S ≤ x S = λ S. theory .taken-slack l S h in
-      let first : Slacks x l a b la lb small fits (run (restPart (B .m) a b) t) × (run (restPart (B .m) a b) t (Temporary 2) ≡ restOf B x a b) = rest-value x l a b la lb small fits t (i .0, i .1) in
-      let r : (run (flowPart (B .m) l a b) (run (restPart (B .m) a b) t) (Flow l) ≡ flowOf B x a b) × ((S : ℕ) → S < 2 ^ B .m → run (flowPart (B .m) l a b) (run (restPart (B .m) a b) t) (Slack S) ≡ x S - takenOf B x a b S)
-      = flow-value x l a b la lb small fits (run (restPart (B .m) a b) t) (first .0) (first .1) in
-      let e : run (lineBlock (B .m) l) t ≡ run (flowPart (B .m) l a b) (run (restPart (B .m) a b) t) = run-append (restPart (B .m) a b) (flowPart (B .m) l a b) t in (
-        holds-keep (tables B) (flows ∷ temporaries ∷ slacks ∷ []) lineReads refl (lineBlock (B .m) l) (line-frame (B .m) l a b) t (i .0),
+      let small : (S : ℕ) → x S ≤ amountLimit = slack-small B sound l in
+      let fits : (S : ℕ) → S < 2 ^ B .m → takenOf B x a b S ≤ x S = λ S _. taken-slack B sound l S h in
+      let first : Slacks x l a b la lb small fits (run (restBlock (B .n) (B .m) a b) t) × (run (restBlock (B .n) (B .m) a b) t (Temporary 2) ≡ restOf B x a b) = rest-value x l a b la lb small fits t (i .0, i .1) in
+      let r : (run (takeBlock (B .n) (B .m) l a b) (run (restBlock (B .n) (B .m) a b) t) (Flow l) ≡ flowOf B x a b) × ((S : ℕ) → S < 2 ^ B .m → run (takeBlock (B .n) (B .m) l a b) (run (restBlock (B .n) (B .m) a b) t) (Slack S) ≡ x S - takenOf B x a b S)
+      = flow-value x l a b la lb small fits (run (restBlock (B .n) (B .m) a b) t) (first .0) (first .1) in
+      let e : run (lineBlock (B .n) (B .m) l) t ≡ run (takeBlock (B .n) (B .m) l a b) (run (restBlock (B .n) (B .m) a b) t) = named-run-append (restBlock (B .n) (B .m) a b) (takeBlock (B .n) (B .m) l a b) t in (
+        holds-keep (tables B) (flows ∷ temporaries ∷ slacks ∷ []) lineReads refl (lineBlock (B .n) (B .m) l) (line-frame (B .n) (B .m) l a b) t (i .0),
         λ S c. ap (λ (w : State). w (Slack S)) e ∙ r .1 S c,
         λ q c. go q (eq-or-lt-of-le (le-of-suc-le-suc c)) (ap (λ (w : State). w (Flow l)) e ∙ r .0)
-            (λ k ne. keep (λ d. not (same (Flow k) d)) (lineBlock (B .m) l) (Flow k) t (line-off (B .m) l a b k ne) (rw (eqb-same k))),
+            (λ k ne. keep (λ d. not (same (Flow k) d)) (lineBlock (B .n) (B .m) l) (Flow k) t (line-off (B .n) (B .m) l a b k ne) (rw (eqb-same k))),
       )
     where
-      go : (q : ℕ) → (q ≡ l) ⊎ (q < l) → run (lineBlock (B .m) l) t (Flow l) ≡ lineFlow B l → ((k : ℕ) → k ≢ l → run (lineBlock (B .m) l) t (Flow k) ≡ t (Flow k))
-          → run (lineBlock (B .m) l) t (Flow q) ≡ lineFlow B q
+      go : (q : ℕ) → (q ≡ l) ⊎ (q < l) → run (lineBlock (B .n) (B .m) l) t (Flow l) ≡ lineFlow B l → ((k : ℕ) → k ≢ l → run (lineBlock (B .n) (B .m) l) t (Flow k) ≡ t (Flow k))
+          → run (lineBlock (B .n) (B .m) l) t (Flow q) ≡ lineFlow B q
       go q (inl e) f k = rw e f
       go q (inr c) f k = k q (omega arith) ∙ i .2 q c
 
-  pub flow-phase : Phase (tables B) (slacks ∷ capacities ∷ zeroCells ∷ []) flows (temporaries ∷ slacks ∷ []) (loop (B .m * B .m) (lineBlock (B .m)))
+  pub flow-phase : Phase (tables B) (slacks ∷ capacities ∷ zeroCells ∷ []) flows (temporaries ∷ slacks ∷ []) (loop (B .m * B .m) (lineBlock (B .n) (B .m)))
   unfolding slackAfter
   flow-phase = record {
     fills = λ s h l j a b. rw (lt-one b)
-        (loop-invariant Fixed (B .m * B .m) (lineBlock (B .m)) s
+        (loop-invariant Fixed (B .m * B .m) (lineBlock (B .n) (B .m)) s
         (holds-part (tables B) (slacks ∷ capacities ∷ zeroCells ∷ []) lineReads refl s h, λ S c. h slacks refl S 0 c (lit< tt), λ q c. absurd (not-suc-le-zero c)) line-turn .2 l a);
-    frame = writes-loop _ (B .m * B .m) (lineBlock (B .m)) (λ l _. line-frame (B .m) l (l / B .m) (l % B .m));
+    frame = writes-loop _ (B .m * B .m) (lineBlock (B .n) (B .m)) (λ l _. line-frame (B .n) (B .m) l (l / B .m) (l % B .m));
   }

@@ -18,15 +18,15 @@ module _ {A : Type 0} where
 
 -- ---- runs
 
-pub run-append : (x y : List (OrderOn Name)) (s : State) → run (x ++ y) s ≡ run y (run x s)
-run-append [] y s = refl
-run-append (o ∷ x) y s = run-append x y (step s o)
+pub named-run-append : (x y : List (OrderOn Name)) (s : State) → run (x ++ y) s ≡ run y (run x s)
+named-run-append [] y s = refl
+named-run-append (o ∷ x) y s = named-run-append x y (step s o)
 
 pub loop-invariant : (P : ℕ → State → Type 0) (k : ℕ) (f : ℕ → List (OrderOn Name)) (s : State)
     → P 0 s → ((i : ℕ) (t : State) → i < k → P i t → P (suc i) (run (f i) t)) → P k (run (loop k f) s)
 loop-invariant P zero f s base turn = base
 loop-invariant P (suc k) f s base turn =
-    rw run-append (turn k (run (loop k f) s) (le-refl (suc k)) (loop-invariant P k f s base (λ i t l. turn i t (omega arith))))
+    rw named-run-append (turn k (run (loop k f) s) (le-refl (suc k)) (loop-invariant P k f s base (λ i t l. turn i t (omega arith))))
 
 -- ---- which cells are written
 
@@ -100,7 +100,7 @@ keep-loop W k f c s h v = keep W (loop k f) c s (writes-loop W k f h) v
 pub loop-only : (k : ℕ) (f : ℕ → List (OrderOn Name)) (c : Name) (s : State) (q : ℕ) → q < k
     → ((i : ℕ) (t : State) → i < k → i ≢ q → run (f i) t c ≡ t c) → run (loop k f) s c ≡ run (f q) (run (loop q f) s) c
 loop-only zero f c s q a h = absurd (not-suc-le-zero a)
-loop-only (suc k) f c s q a h = rw run-append (go (eq-or-lt-of-le (le-of-suc-le-suc a)) (λ l. loop-only k f c s q l (λ i t b. h i t (omega arith))))
+loop-only (suc k) f c s q a h = rw named-run-append (go (eq-or-lt-of-le (le-of-suc-le-suc a)) (λ l. loop-only k f c s q l (λ i t b. h i t (omega arith))))
   where
     go : (q ≡ k) ⊎ (q < k) → (q < k → run (loop k f) s c ≡ run (f q) (run (loop q f) s) c) → run (f k) (run (loop k f) s) c ≡ run (f q) (run (loop q f) s) c
     go (inl e) ih = rw e

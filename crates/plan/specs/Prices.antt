@@ -2,7 +2,7 @@
 use mathlib.Core.Path.{_≡_, refl}
 use mathlib.Core.Bool.{Bool, true, false, not, _&&_}
 use mathlib.Core.List.{[], _∷_}
-use Prim.Native.Nat.{ℕ, zero, suc, _<_}
+use Prim.Native.Nat.{ℕ, zero, suc, _≤_, _<_}
 use native.Mathlib.Omega.{arith}
 use lib.Dec.{ltb, eqb, lit<, lit≤}
 use Rattle.definitions.specs.Limits.{modulus, greatestPositive, priceLimit}
@@ -10,6 +10,8 @@ use Rattle.definitions.specs.Arithmetic.{on}
 use Rattle.definitions.specs.Book.{Book, purchase}
 use Rattle.definitions.specs.Machine.{minus, times}
 use Rattle.laws.specs.AcceptedBook.{poolIndex, Sound}
+use Rattle.theory.specs.Choices.{on-le}
+use Rattle.theory.specs.ClosedBest.{peak-small}
 use Rattle.plan.specs.Orders.{constant, at, run, State}
 use Rattle.plan.specs.Residues.{times-on, on-times, less-small, max-small}
 use Rattle.plan.specs.Loops.{loop, writes-loop, eqb-same}
@@ -17,8 +19,9 @@ use Rattle.plan.specs.Holds.{Holds, Phase, holds-keep, fill-column, fill
 use Rattle.plan.specs.Names.{zeroCells, units, shifts, sides, positivePrices, memberships, amounts, offers, highestOffers, prices, temporaries, HighestOffer}
 use Rattle.plan.specs.Running.{Raises, raise}
 use Rattle.plan.specs.Values.{tables, rate, acceptedAmount, offer, peak, priceCells}
-use Rattle.plan.specs.Blocks.{offerBlock, highestOfferTurn, highestOfferBlock, priceBlock}
-use Rattle.plan.specs.Bounds.{Theory, on-le, accepted-small, offer-small, peak-small}
+use Rattle.plan.specs.Blocks.{offerBlock, highestOfferTurn, priceBlock}
+use Rattle.plan.specs.Work.{highestOfferBlock}
+use Rattle.plan.specs.Bounds.{accepted-small, offer-small}
 
 -- two tests and a number, by products
 both-tests : (s t : Bool) (v : ℕ) → v < modulus → times (times (on s 1) (minus 1 (on t 1))) v ≡ on (s && not t) v
@@ -28,9 +31,9 @@ both-tests false true v h = omega arith
 both-tests false false v h = omega arith
 
 module _ (B : Book) (sound : Sound B) where
-  pub offer-phase : Theory B → Phase (tables B) (amounts ∷ sides ∷ positivePrices ∷ units ∷ zeroCells ∷ []) offers (temporaries ∷ []) (loop (B .n) offerBlock)
+  pub offer-phase : Phase (tables B) (amounts ∷ sides ∷ positivePrices ∷ units ∷ zeroCells ∷ []) offers (temporaries ∷ []) (loop (B .n) offerBlock)
   unfolding offer
-  offer-phase theory = fill-column (tables B) (amounts ∷ sides ∷ positivePrices ∷ units ∷ zeroCells ∷ []) offers (temporaries ∷ []) refl refl refl offerBlock (λ i. rw (eqb-same i))
+  offer-phase = fill-column (tables B) (amounts ∷ sides ∷ positivePrices ∷ units ∷ zeroCells ∷ []) offers (temporaries ∷ []) refl refl refl offerBlock (λ i. rw (eqb-same i))
       (λ i t l h. rw (
         eqb-same i,
         h zeroCells refl 0 0 (lit< tt) (lit< tt),
@@ -38,7 +41,7 @@ module _ (B : Book) (sound : Sound B) where
         h amounts refl i 0 l (lit< tt),
         h sides refl i 0 l (lit< tt),
         h positivePrices refl i 0 l (lit< tt),
-        less-small 0 (acceptedAmount B i) (lit≤ tt) (omega (arith, accepted-small B sound theory i l)),
+        less-small 0 (acceptedAmount B i) (lit≤ tt) (omega (arith, accepted-small B sound i l)),
       )
       (both-tests (ltb 0 (acceptedAmount B i)) (purchase B i) (rate B i) (omega (arith, sound .price-small i l))))
 
@@ -46,22 +49,25 @@ module _ (B : Book) (sound : Sound B) where
   abbrev Offers : State → Type 0
   Offers = Holds (tables B) (offers ∷ memberships ∷ [])
 
+  pool-offer-small : (p i : ℕ) → i < B .n → on (eqb (poolIndex B i) p) (offer B i) ≤ greatestPositive
+  pool-offer-small p i l = omega (arith, on-le (eqb (poolIndex B i) p) (offer B i), offer-small B sound i l)
+
   highest-offer-raises : (p : ℕ) → p < B .m → (i : ℕ) → i < B .n → Raises Offers (HighestOffer p) (highestOfferTurn p i) (on (eqb (poolIndex B i) p) (offer B i))
   highest-offer-raises p b i l t h c = (
     holds-keep (tables B) (highestOffers ∷ temporaries ∷ []) (offers ∷ memberships ∷ []) refl (highestOfferTurn p i) refl t h,
     rw (eqb-same p, h memberships refl i p l b, h offers refl i 0 l (lit< tt), times-on (eqb (poolIndex B i) p) (offer B i) (omega (arith, offer-small B sound i l)))
-        (max-small (t (HighestOffer p)) (on (eqb (poolIndex B i) p) (offer B i)) c (on-le (eqb (poolIndex B i) p) (offer B i) greatestPositive (omega (arith, offer-small B sound i l)))),
+        (max-small (t (HighestOffer p)) (on (eqb (poolIndex B i) p) (offer B i)) c (pool-offer-small p i l)),
   )
 
-  highest-offer-value : (p : ℕ) (t : State) → p < B .m → Offers t → run (highestOfferBlock (B .n) p) t (HighestOffer p) ≡ peak B p
+  highest-offer-value : (p : ℕ) (t : State) → p < B .m → Offers t → run (highestOfferBlock (B .n) (B .m) p) t (HighestOffer p) ≡ peak B p
   unfolding peak
   highest-offer-value p t b h =
       raise Offers (HighestOffer p) (B .n) (highestOfferTurn p) (λ i. on (eqb (poolIndex B i) p) (offer B i))
-      (λ i l. on-le (eqb (poolIndex B i) p) (offer B i) greatestPositive (omega (arith, offer-small B sound i l))) (highest-offer-raises p b)
+      (pool-offer-small p) (highest-offer-raises p b)
       (run (constant (HighestOffer p) 0 ∷ []) t) (holds-keep (tables B) (highestOffers ∷ []) (offers ∷ memberships ∷ []) refl (constant (HighestOffer p) 0 ∷ []) refl t h) (rw (eqb-same p)) .1
 
-  pub highest-offer-phase : Phase (tables B) (offers ∷ memberships ∷ []) highestOffers (temporaries ∷ []) (loop (B .m) (highestOfferBlock (B .n)))
-  highest-offer-phase = fill-column (tables B) (offers ∷ memberships ∷ []) highestOffers (temporaries ∷ []) refl refl refl (highestOfferBlock (B .n))
+  pub highest-offer-phase : Phase (tables B) (offers ∷ memberships ∷ []) highestOffers (temporaries ∷ []) (loop (B .m) (highestOfferBlock (B .n) (B .m)))
+  highest-offer-phase = fill-column (tables B) (offers ∷ memberships ∷ []) highestOffers (temporaries ∷ []) refl refl refl (highestOfferBlock (B .n) (B .m))
       (λ p. rw (eqb-same p) (writes-loop _ (B .n) (highestOfferTurn p) (λ i _. rw (eqb-same p)))) highest-offer-value
 
   price-value : (p j : ℕ) (t : State) → p < B .m → j < 2 → Holds (tables B) (highestOffers ∷ shifts ∷ zeroCells ∷ []) t → run (priceBlock p) t (at prices p j) ≡ priceCells B p j

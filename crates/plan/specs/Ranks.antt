@@ -2,36 +2,32 @@
 use mathlib.Core.Path.{_≡_, refl, ap, _∙_}
 use mathlib.Core.Bool.{Bool, true, false, not, cond}
 use mathlib.Core.List.{List, [], _∷_}
-use Prim.Native.Nat.{ℕ, zero, suc, _+_, _-_, _*_, _^_, _≤_, _<_}
-use native.Mathlib.Nat.{le-refl}
+use Prim.Native.Nat.{ℕ, suc, _+_, _-_, _*_, _^_, _≤_, _<_}
 use native.Mathlib.Omega.{arith}
 use lib.Dec.{ltb, eqb, lit<}
 use borrow.Author.Tests.{ne-eqb}
-use Rattle.definitions.specs.Limits.{greatestPositive, quantityLimit}
+use Rattle.definitions.specs.Limits.{greatestPositive, poolLimit, quantityLimit}
 use Rattle.definitions.specs.Arithmetic.{on, sumTo}
 use Rattle.definitions.specs.Book.{Book, purchase, size}
 use Rattle.definitions.specs.Machine.{plus, minus, times}
 use Rattle.definitions.specs.Clearing.{before}
-use Rattle.laws.specs.Sum.{sum-prefix, sum-le}
+use Rattle.laws.specs.Sum.{sum-prefix}
 use Rattle.laws.specs.Extremes.{minTo}
 use Rattle.laws.specs.AcceptedBook.{Sound}
+use Rattle.theory.specs.ClosedBest.{sizeTotal, key-small, used-and-rank, used-size, ahead-small}
 use Rattle.plan.specs.Orders.{constant, Name, at, same, run, State}
 use Rattle.plan.specs.Residues.{plus-small, minus-small, times-on, less-small, min-small}
-use Rattle.plan.specs.Loops.{loop, run-append, loop-invariant, among, writes, writes-append, writes-loop, keep, eqb-same, loop-own}
+use Rattle.plan.specs.Loops.{loop, named-run-append, loop-invariant, among, writes, writes-append, writes-loop, keep, eqb-same, loop-own}
 use Rattle.plan.specs.Holds.{Holds, Phase, holds-keep, holds-part, touches, touches-among, fill-column, fill-rows, fill-cells}
-use Rattle.plan.specs.Names.{zeroCells, sides, sizes, doubles, keys, nexts, poolSizes, subsets, cuts, sizesBefore, ranksBefore, sizesWith, ranksWith, uses, amounts, temporaries, Temporary, PoolSize, Subset, SizeBefore, SizeWith}
+use Rattle.plan.specs.Names.{zeroCells, sides, sizes, doubles, keys, nexts, poolSizes, subsets, cuts, sizesBefore, ranksBefore, sizesWith, ranksWith, uses, amounts, temporaries, Temporary, PoolSize, Subset, SizeBefore, RankBefore, SizeWith, RankWith}
 use Rattle.plan.specs.Subsets.{member, complement, subsetSum, subset-outside}
 use Rattle.plan.specs.Running.{Lowers, lower, subset-sums}
 use Rattle.plan.specs.Values.{tables, rate, key, weight, cut, ahead, reach, rank, usedAmount, acceptedAmount}
-use Rattle.plan.specs.Blocks.{Block, testAt, testOrder, gainTurn, sizeBeforeTurn, sizeBeforeStart, sizeBeforeBlock, subsetBlocks, costTurn, costLoop, rankBlock, rankBeforeBlock, sizeWithBlock, rankWithBlock, useBlock, amountBlock}
+use Rattle.plan.specs.Blocks.{Block, testAt, testOrder, gainTurn, sizeBeforeStart, costTurn, sizeWithBlock, useBlock, amountBlock}
+use Rattle.plan.specs.Work.{sizeBeforeTurn, sizeBeforeBlock, subsetBlocks, costBlock, rankBlock}
 use Rattle.plan.specs.Merit.{keyTest, test-is-before}
 use Rattle.plan.specs.Cuts.{subsets-frame}
-use Rattle.plan.specs.Bounds.{Theory, on-le, sizeTotal, sum-limit, weight-small, ahead-small, reach-small, cost-small, rank-small}
-
-min-mono : (d k : ℕ) (f h : ℕ → ℕ) → ((i : ℕ) → i < k → f i ≤ h i) → minTo d k f ≤ minTo d k h
-unfolding minTo
-min-mono d zero f h e = le-refl d
-min-mono d (suc k) f h e = omega (arith, min-mono d k f h (λ i l. e i (omega arith)), e k (le-refl (suc k)))
+use Rattle.plan.specs.Bounds.{sum-limit, weight-small, reach-small, set-cost-small, rank-small}
 
 accept-small : (t : Bool) (v x : ℕ) → x ≤ v → v ≤ quantityLimit → plus x (times (minus (minus v x) x) (on t 1)) ≡ cond t (v - x) x
 accept-small true v x h k =
@@ -62,19 +58,16 @@ module _ (B : Book) (sound : Sound B) where
   test-value : (i j : ℕ) → i < B .n → j < B .n → (t : State) → Compared t → run (testOrder i j ∷ []) t (Temporary 0) ≡ on (before B j i) 1
   test-value i j a b t h = go (ltb j i) (ltb i j) ∙ ap (λ (x : Bool). on x 1) (test-is-before B sound j i b a)
     where
-      side-small : (x : Bool) → on x 1 ≤ 1
-      side-small x = on-le x 1 1 (le-refl 1)
-
       go : (x y : Bool) → run (testAt x y i j ∷ []) t (Temporary 0) ≡ on (keyTest x y B j i) 1
       go true y =
           rw (h keys refl j 0 b (lit< tt), h nexts refl i 0 a (lit< tt))
-          (less-small (key B j) (2 * rate B i + 1) (omega (arith, side-small (purchase B j), sound .price-small j b)) (omega (arith, sound .price-small i a)))
+          (less-small (key B j) (2 * rate B i + 1) (omega (arith, key-small B sound j b)) (omega (arith, sound .price-small i a)))
       go false true =
           rw (h doubles refl j 0 b (lit< tt), h keys refl i 0 a (lit< tt))
-          (less-small (2 * rate B j) (key B i) (omega (arith, sound .price-small j b)) (omega (arith, side-small (purchase B i), sound .price-small i a)))
+          (less-small (2 * rate B j) (key B i) (omega (arith, sound .price-small j b)) (omega (arith, key-small B sound i a)))
       go false false = rw (h zeroCells refl 0 0 (lit< tt) (lit< tt))
 
-  turn-writes : (W : Name → Bool) (i j : ℕ) → W (Temporary 0) ≡ true → W (Temporary 1) ≡ true → ((p : ℕ) → W (SizeBefore i p) ≡ true) → writes W (sizeBeforeTurn (B .m) i j) ≡ true
+  turn-writes : (W : Name → Bool) (i j : ℕ) → W (Temporary 0) ≡ true → W (Temporary 1) ≡ true → ((p : ℕ) → W (SizeBefore i p) ≡ true) → writes W (sizeBeforeTurn (B .n) (B .m) i j) ≡ true
   turn-writes W i j e f g = writes-append W (testOrder i j ∷ []) (loop (B .m) (gainTurn i j)) (test-writes W i j e) (writes-loop W (B .m) (gainTurn i j) (λ p _. rw (f, g p)))
 
   -- the gains of all pools, from the test's outcome
@@ -90,17 +83,17 @@ module _ (B : Book) (sound : Sound B) where
         keep (λ c. not (same (Temporary 0) c)) (loop p (gainTurn i j)) (Temporary 0) t (writes-loop _ p (gainTurn i j) (λ q _. refl)) refl,
       )
 
-  turn-frame : (i j : ℕ) → writes (among (sizesBefore ∷ temporaries ∷ [])) (sizeBeforeTurn (B .m) i j) ≡ true
+  turn-frame : (i j : ℕ) → writes (among (sizesBefore ∷ temporaries ∷ [])) (sizeBeforeTurn (B .n) (B .m) i j) ≡ true
   turn-frame i j = turn-writes (among (sizesBefore ∷ temporaries ∷ [])) i j refl refl (λ p. refl)
 
   -- after k bids: the sizes of those of them that are before bid i
   abbrev Gained : (i k : ℕ) → State → Type 0
   Gained i k t = Compared t × ((p : ℕ) → p < B .m → t (SizeBefore i p) ≡ sumTo k (λ j. on (before B j i) (weight B j p)))
 
-  size-before-turn : (i j : ℕ) (t : State) → i < B .n → j < B .n → Gained i j t → Gained i (suc j) (run (sizeBeforeTurn (B .m) i j) t)
+  size-before-turn : (i j : ℕ) (t : State) → i < B .n → j < B .n → Gained i j t → Gained i (suc j) (run (sizeBeforeTurn (B .n) (B .m) i j) t)
   unfolding sumTo ahead
   size-before-turn i j t a b g = (
-    holds-keep (tables B) (sizesBefore ∷ temporaries ∷ []) sizeBeforeReads refl (sizeBeforeTurn (B .m) i j) (turn-frame i j) t (g .0),
+    holds-keep (tables B) (sizesBefore ∷ temporaries ∷ []) sizeBeforeReads refl (sizeBeforeTurn (B .n) (B .m) i j) (turn-frame i j) t (g .0),
     λ p l.
         let f : ℕ → ℕ = λ k. on (before B k i) (weight B k p) in
         gain-value i j p l (run (testOrder i j ∷ []) t)
@@ -118,8 +111,8 @@ module _ (B : Book) (sound : Sound B) where
   size-before-value : (i p : ℕ) (t : State) → i < B .n → p < B .m → Compared t → run (sizeBeforeBlock (B .n) (B .m) i) t (SizeBefore i p) ≡ ahead B i p
   unfolding sumTo ahead
   size-before-value i p t a l h =
-      ap (λ (r : State). r (SizeBefore i p)) (run-append (loop (B .m) (sizeBeforeStart i)) (loop (B .n) (sizeBeforeTurn (B .m) i)) t)
-      ∙ loop-invariant (Gained i) (B .n) (sizeBeforeTurn (B .m) i) (run (loop (B .m) (sizeBeforeStart i)) t) (
+      ap (λ (r : State). r (SizeBefore i p)) (named-run-append (loop (B .m) (sizeBeforeStart i)) (loop (B .n) (sizeBeforeTurn (B .n) (B .m) i)) t)
+      ∙ loop-invariant (Gained i) (B .n) (sizeBeforeTurn (B .n) (B .m) i) (run (loop (B .m) (sizeBeforeStart i)) t) (
         holds-keep (tables B) (sizesBefore ∷ []) sizeBeforeReads refl (loop (B .m) (sizeBeforeStart i)) (writes-loop _ (B .m) (sizeBeforeStart i) (λ q _. refl)) t h,
         λ q b. loop-own (B .m) (sizeBeforeStart i) (SizeBefore i q) t q b (λ k r ne. rw (eqb-same i, ne-eqb k q ne)) .0 ∙ rw (eqb-same i, eqb-same q),
       )
@@ -128,16 +121,16 @@ module _ (B : Book) (sound : Sound B) where
   pub size-before-phase : Phase (tables B) sizeBeforeReads sizesBefore (temporaries ∷ []) (loop (B .n) (sizeBeforeBlock (B .n) (B .m)))
   size-before-phase = fill-rows (tables B) sizeBeforeReads sizesBefore (temporaries ∷ []) refl refl (sizeBeforeBlock (B .n) (B .m))
       (λ i. writes-append (touches sizesBefore i (temporaries ∷ [])) (loop (B .m) (sizeBeforeStart i)) _ (writes-loop _ (B .m) (sizeBeforeStart i) (λ q _. rw (eqb-same i)))
-      (writes-loop _ (B .n) (sizeBeforeTurn (B .m) i) (λ j _. turn-writes (touches sizesBefore i (temporaries ∷ [])) i j refl refl (λ p. rw (eqb-same i)))))
+      (writes-loop _ (B .n) (sizeBeforeTurn (B .n) (B .m) i) (λ j _. turn-writes (touches sizesBefore i (temporaries ∷ [])) i j refl refl (λ p. rw (eqb-same i)))))
       size-before-value
 
   -- ---- the rank of bids with sums x in cells X, in cell i of family u
 
   rank-frame : (u i : ℕ) (X : ℕ → Name) → ((S : ℕ) → writes (touches u i (temporaries ∷ subsets ∷ [])) (costTurn (B .m) (at u i 0) S) ≡ true) → writes (touches u i (temporaries ∷ subsets ∷ [])) (constant (at u i 0) greatestPositive ∷ []) ≡ true
-      → writes (touches u i (temporaries ∷ subsets ∷ [])) (rankBlock (B .m) X (at u i 0)) ≡ true
+      → writes (touches u i (temporaries ∷ subsets ∷ [])) (rankBlock (B .n) (B .m) X (at u i 0)) ≡ true
   rank-frame u i X turn start =
       let W : Name → Bool = touches u i (temporaries ∷ subsets ∷ []) in
-      writes-append W (subsetBlocks (B .m) X) (costLoop (B .m) (at u i 0)) (touches-among u i (subsets ∷ []) (temporaries ∷ subsets ∷ []) refl (subsetBlocks (B .m) X) (subsets-frame (B .m) X))
+      writes-append W (subsetBlocks (B .n) (B .m) X) (costBlock (B .n) (B .m) (at u i 0)) (touches-among u i (subsets ∷ []) (temporaries ∷ subsets ∷ []) refl (subsetBlocks (B .n) (B .m) X) (subsets-frame (B .n) (B .m) X))
       (writes-append W (constant (at u i 0) greatestPositive ∷ []) (loop (2 ^ B .m) (costTurn (B .m) (at u i 0))) start (writes-loop W (2 ^ B .m) (costTurn (B .m) (at u i 0)) (λ S _. turn S)))
 
   module _ (u i : ℕ) (no-temporary : eqb temporaries u ≡ false) (no-cut : eqb u cuts ≡ false) (no-subset : eqb u subsets ≡ false)
@@ -172,27 +165,27 @@ module _ (B : Book) (sound : Sound B) where
         g .0 cuts refl S 0 a (lit< tt),
         g .1 (complement (B .m) S) (omega arith),
         subset-outside (B .m) x S a,
-        plus-small (cut B S) (sumTo (B .m) (λ p. on (not (member S p)) (x p))) (omega (arith, cost-small B sound x small S)),
+        plus-small (cut B S) (sumTo (B .m) (λ p. on (not (member S p)) (x p))) (omega (arith, set-cost-small B sound x small S)),
       )
-          (min-small (t d) (cost S) c (cost-small B sound x small S)),
+          (min-small (t d) (cost S) c (set-cost-small B sound x small S)),
     )
 
-    rank-value : (s : State) → Holds (tables B) (cuts ∷ []) s → ((p : ℕ) → p < B .m → s (X p) ≡ x p) → run (rankBlock (B .m) X d) s d ≡ rank B x
+    rank-value : (s : State) → Holds (tables B) (cuts ∷ []) s → ((p : ℕ) → p < B .m → s (X p) ≡ x p) → run (rankBlock (B .n) (B .m) X d) s d ≡ rank B x
     unfolding rank
     rank-value s h e =
-        let r : State = run (subsetBlocks (B .m) X) s in
+        let r : State = run (subsetBlocks (B .n) (B .m) X) s in
         let g : Summed r = (
-          holds-keep (tables B) (subsets ∷ []) (cuts ∷ []) refl (subsetBlocks (B .m) X) (subsets-frame (B .m) X) s h,
-          subset-sums (B .m) X clear x (omega (arith, sum-limit (B .m) 4 x (sizeTotal + quantityLimit) (sound .pools) small)) s e,
+          holds-keep (tables B) (subsets ∷ []) (cuts ∷ []) refl (subsetBlocks (B .n) (B .m) X) (subsets-frame (B .n) (B .m) X) s h,
+          subset-sums (B .m) X clear x (omega (arith, sum-limit (B .m) poolLimit x (sizeTotal + quantityLimit) (sound .pools) small)) s e,
         ) in
         let t : State = run (constant d greatestPositive ∷ []) r in
         let f : t d ≡ greatestPositive = rw (eqb-same u, eqb-same i) in
-        ap (λ (v : State). v d) (run-append (subsetBlocks (B .m) X) (costLoop (B .m) d) s)
+        ap (λ (v : State). v d) (named-run-append (subsetBlocks (B .n) (B .m) X) (costBlock (B .n) (B .m) d) s)
         ∙ lower Summed d (2 ^ B .m) (costTurn (B .m) d) cost cost-lowers t (summed-keep (constant d greatestPositive ∷ []) (rw (no-temporary, eqb-same u)) r g) (omega arith) .1
         ∙ ap (λ (v : ℕ). minTo v (2 ^ B .m) cost) f
 
-  pub rank-before-phase : Phase (tables B) (sizesBefore ∷ cuts ∷ []) ranksBefore (temporaries ∷ subsets ∷ []) (loop (B .n) (rankBeforeBlock (B .m)))
-  rank-before-phase = fill-column (tables B) (sizesBefore ∷ cuts ∷ []) ranksBefore (temporaries ∷ subsets ∷ []) refl refl refl (rankBeforeBlock (B .m))
+  pub rank-before-phase : Phase (tables B) (sizesBefore ∷ cuts ∷ []) ranksBefore (temporaries ∷ subsets ∷ []) (loop (B .n) (λ i. rankBlock (B .n) (B .m) (SizeBefore i) (RankBefore i)))
+  rank-before-phase = fill-column (tables B) (sizesBefore ∷ cuts ∷ []) ranksBefore (temporaries ∷ subsets ∷ []) refl refl refl (λ i. rankBlock (B .n) (B .m) (SizeBefore i) (RankBefore i))
       (λ i. rank-frame ranksBefore i (SizeBefore i) (λ S. rw (eqb-same i)) (rw (eqb-same i)))
       (λ i t l h.
       rank-value ranksBefore i refl refl refl (SizeBefore i) (λ p. refl) (ahead B i) (λ p _. omega (arith, ahead-small B sound i p)) t
@@ -204,8 +197,8 @@ module _ (B : Book) (sound : Sound B) where
       (λ i p t l b h. rw (eqb-same i, eqb-same p, h sizesBefore refl i p l b, h poolSizes refl i p l b)
       (plus-small (ahead B i p) (weight B i p) (omega (arith, ahead-small B sound i p, weight-small B sound i p l))))
 
-  pub rank-with-phase : Phase (tables B) (sizesWith ∷ cuts ∷ []) ranksWith (temporaries ∷ subsets ∷ []) (loop (B .n) (rankWithBlock (B .m)))
-  rank-with-phase = fill-column (tables B) (sizesWith ∷ cuts ∷ []) ranksWith (temporaries ∷ subsets ∷ []) refl refl refl (rankWithBlock (B .m))
+  pub rank-with-phase : Phase (tables B) (sizesWith ∷ cuts ∷ []) ranksWith (temporaries ∷ subsets ∷ []) (loop (B .n) (λ i. rankBlock (B .n) (B .m) (SizeWith i) (RankWith i)))
+  rank-with-phase = fill-column (tables B) (sizesWith ∷ cuts ∷ []) ranksWith (temporaries ∷ subsets ∷ []) refl refl refl (λ i. rankBlock (B .n) (B .m) (SizeWith i) (RankWith i))
       (λ i. rank-frame ranksWith i (SizeWith i) (λ S. rw (eqb-same i)) (rw (eqb-same i)))
       (λ i t l h.
       rank-value ranksWith i refl refl refl (SizeWith i) (λ p. refl) (reach B i) (λ p _. reach-small B sound i p l) t
@@ -213,27 +206,14 @@ module _ (B : Book) (sound : Sound B) where
 
   -- ---- the amounts
 
-  -- more bids, no smaller rank
-  rank-grows : (x y : ℕ → ℕ) → ((p : ℕ) → x p ≤ y p) → rank B x ≤ rank B y
-  unfolding rank
-  rank-grows x y h = min-mono greatestPositive (2 ^ B .m) _ _ (λ S _. omega (arith, sum-le (B .m) (λ p. on (not (member S p)) (x p)) (λ p. on (not (member S p)) (y p)) (λ p _. go (not (member S p)) p)))
-    where
-      go : (t : Bool) (p : ℕ) → on t (x p) ≤ on t (y p)
-      go true p = h p
-      go false p = le-refl 0
-
-  ahead-reach : (i p : ℕ) → ahead B i p ≤ reach B i p
-  unfolding reach
-  ahead-reach i p = omega arith
-
   pub use-phase : Phase (tables B) (ranksBefore ∷ ranksWith ∷ []) uses [] (loop (B .n) useBlock)
   unfolding usedAmount
   use-phase = fill-column (tables B) (ranksBefore ∷ ranksWith ∷ []) uses [] refl refl refl useBlock (λ i. rw (eqb-same i))
       (λ i t l h. rw (eqb-same i, h ranksBefore refl i 0 l (lit< tt), h ranksWith refl i 0 l (lit< tt))
-      (minus-small (rank B (reach B i)) (rank B (ahead B i)) (omega (arith, rank-small B sound (reach B i))) (rank-grows (ahead B i) (reach B i) (ahead-reach i))))
+      (minus-small (rank B (reach B i)) (rank B (ahead B i)) (omega (arith, rank-small B sound (reach B i))) (omega (arith, used-and-rank B sound i l))))
 
-  pub amount-phase : Theory B → Phase (tables B) (sides ∷ sizes ∷ uses ∷ []) amounts (temporaries ∷ []) (loop (B .n) amountBlock)
+  pub amount-phase : Phase (tables B) (sides ∷ sizes ∷ uses ∷ []) amounts (temporaries ∷ []) (loop (B .n) amountBlock)
   unfolding acceptedAmount
-  amount-phase theory = fill-column (tables B) (sides ∷ sizes ∷ uses ∷ []) amounts (temporaries ∷ []) refl refl refl amountBlock (λ i. rw (eqb-same i))
+  amount-phase = fill-column (tables B) (sides ∷ sizes ∷ uses ∷ []) amounts (temporaries ∷ []) refl refl refl amountBlock (λ i. rw (eqb-same i))
       (λ i t l h. rw (eqb-same i, h sizes refl i 0 l (lit< tt), h uses refl i 0 l (lit< tt), h sides refl i 0 l (lit< tt))
-      (accept-small (purchase B i) (size B i) (usedAmount B i) (theory .used-size i l) (sound .size-small i l)))
+      (accept-small (purchase B i) (size B i) (usedAmount B i) (used-size B sound i l) (sound .size-small i l)))

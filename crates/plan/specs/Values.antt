@@ -1,16 +1,15 @@
 -- What each family of cells holds in the end: a number of the book or one of the theory's closed forms (`valueOf`).
 use Prim.Native.Nat.{ℕ, zero, suc, _+_, _*_}
 use mathlib.Core.List.{[], _∷_}
-use lib.Dec.{ltb, eqb}
+use lib.Dec.{eqb}
 use lib.ListN.{getD}
 use Rattle.definitions.specs.Limits.{priceLimit}
 use Rattle.definitions.specs.Arithmetic.{on, residue}
 use Rattle.definitions.specs.Book.{Book, pool, price, quantity, size, capacity}
-use Rattle.definitions.specs.Machine.{minus}
 use Rattle.laws.specs.AcceptedBook.{poolIndex}
 use Rattle.plan.specs.Holds.{Tables}
 use Rattle.plan.specs.Names.{rowsOf, columnsOf}
-pub use Rattle.theory.specs.ClosedForms.{rate, side, key, weight, takenOf, lineFlow}
+pub use Rattle.theory.specs.ClosedForms.{rate, side, key, weight, takenOf, lineFlow, closedPrice, closedPresence}
 unfoldable pub use Rattle.theory.specs.ClosedForms.{demand, cut, ahead, reach, rank, usedAmount, acceptedAmount, placement, slack, restOf, flowOf, slackAfter, offer, peak}
 
 module _ (B : Book) where
@@ -20,10 +19,10 @@ module _ (B : Book) where
   bidCell i (suc zero) = residue (price B i)
   bidCell i (suc (suc j)) = residue (quantity B i)
 
-  -- a pool's two cells
+  -- a pool's two cells, its price and its presence
   abbrev pub priceCells : (p j : ℕ) → ℕ
-  priceCells p zero = on (ltb 0 (peak B p)) (minus (peak B p) (suc priceLimit))
-  priceCells p (suc j) = on (ltb 0 (peak B p)) 1
+  priceCells p zero = closedPrice B p
+  priceCells p (suc j) = closedPresence B p
 
   -- what each family holds in the end, in the families' order; temporaries and sums over subsets are not kept
   abbrev pub valueOf : (t i j : ℕ) → ℕ

@@ -8,7 +8,6 @@ use Rattle.plan.specs.Orders.{State, run}
 use Rattle.plan.specs.Holds.{Holds, Step, then, phase-step, step-part}
 use Rattle.plan.specs.Names.{bids, capacities, amounts, flows, prices, zeroCells}
 use Rattle.plan.specs.Values.{tables}
-use Rattle.plan.specs.Bounds.{Theory}
 use Rattle.plan.specs.Bids.{unit-phase, shift-phase, pool-number-phase, side-phase, size-phase, positive-price-phase, double-phase, key-phase, next-phase, membership-phase, pool-size-phase}
 use Rattle.plan.specs.Cuts.{demand-phase, cut-phase}
 use Rattle.plan.specs.Ranks.{size-before-phase, rank-before-phase, size-with-phase, rank-with-phase, use-phase, amount-phase}
@@ -25,7 +24,7 @@ inputs = bids ∷ capacities ∷ zeroCells ∷ []
 abbrev pub outputs : List ℕ
 outputs = bids ∷ capacities ∷ amounts ∷ flows ∷ prices ∷ []
 
-module _ (B : Book) (sound : Sound B) (theory : Theory B) where
+module _ (B : Book) (sound : Sound B) where
   all-steps : Step (tables B) inputs outputs (flat (work (B .n) (B .m)))
   all-steps =
       step-part (tables B) outputs
@@ -50,12 +49,12 @@ module _ (B : Book) (sound : Sound B) (theory : Theory B) where
       (then (tables B) (phase-step (tables B) _ (size-with-phase B sound) refl)
       (then (tables B) (phase-step (tables B) _ (rank-with-phase B sound) refl)
       (then (tables B) (phase-step (tables B) _ (use-phase B sound) refl)
-      (phase-step (tables B) _ (amount-phase B sound theory) refl))))))
+      (phase-step (tables B) _ (amount-phase B sound) refl))))))
       (then (tables B)
-      (then (tables B) (phase-step (tables B) _ (placement-phase B sound theory) refl)
-      (then (tables B) (phase-step (tables B) _ (slack-phase B sound theory) refl)
-      (phase-step (tables B) _ (flow-phase B sound theory) refl)))
-      (then (tables B) (phase-step (tables B) _ (offer-phase B sound theory) refl)
+      (then (tables B) (phase-step (tables B) _ (placement-phase B sound) refl)
+      (then (tables B) (phase-step (tables B) _ (slack-phase B sound) refl)
+      (phase-step (tables B) _ (flow-phase B sound) refl)))
+      (then (tables B) (phase-step (tables B) _ (offer-phase B sound) refl)
       (then (tables B) (phase-step (tables B) _ (highest-offer-phase B sound) refl)
       (phase-step (tables B) _ (price-phase B sound) refl)))))))
       refl

@@ -35,9 +35,13 @@ use Rattle.theory.specs.BestClearing.{best-unique}
 use Rattle.theory.specs.PoolPrice.{greatestOf, greatestSale, pool-price-same, price-by-greatest, presence-by-greatest, greatest-sale-small}
 use Rattle.theory.specs.ClosedForms.{leaves, subsetSum, rate, key, weight, demand, cut, ahead, reach, cost, rank, usedAmount, acceptedAmount, placement, slack, restOf, flowOf, takenOf, slackAfter, lineFlow, closedClearing, offer, peak, closedPrice, closedPresence}
 
--- all sizes and all capacities together; every number of the closed forms but a key stays below
+-- all sizes together
+abbrev pub sizeTotal : ℕ
+sizeTotal = bidLimit * quantityLimit
+
+-- all sizes and all capacities together; every cut and every slack stays below
 abbrev pub amountLimit : ℕ
-amountLimit = bidLimit * quantityLimit + poolLimit * poolLimit * capacityLimit
+amountLimit = sizeTotal + poolLimit * poolLimit * capacityLimit
 
 -- the least does not depend on where it starts, if it starts high enough
 min-start : (d k : ℕ) (f : ℕ → ℕ) → 0 < k → f 0 ≤ d → minTo d k f ≡ minTo (f 0) k f
@@ -219,30 +223,27 @@ module _ (B : Book) (ok : Sound B) where
 
   -- ---- bounds
 
-  sizes-small : (f : ℕ → ℕ) → ((i : ℕ) → i < B .n → f i ≤ size B i) → sumTo (B .n) f ≤ bidLimit * quantityLimit
+  sizes-small : (f : ℕ → ℕ) → ((i : ℕ) → i < B .n → f i ≤ size B i) → sumTo (B .n) f ≤ sizeTotal
   sizes-small f h =
       omega (arith, sum-bound (B .n) quantityLimit f (λ i l. omega (arith, h i l, ok .size-small i l)), mul-le-mul-right quantityLimit (ok .bids))
 
   on-on-le : (s t : Bool) (v : ℕ) → on s (on t v) ≤ v
   on-on-le s t v = omega (arith, on-le s (on t v), on-le t v)
 
-  pub demand-small : (p : ℕ) → demand B p ≤ bidLimit * quantityLimit
+  pub demand-small : (p : ℕ) → demand B p ≤ sizeTotal
   unfolding demand
   demand-small p = sizes-small _ (λ i l. on-on-le (purchase B i) (eqb (poolIndex B i) p) (size B i))
 
-  pub ahead-small : (i p : ℕ) → ahead B i p ≤ bidLimit * quantityLimit
+  pub ahead-small : (i p : ℕ) → ahead B i p ≤ sizeTotal
   unfolding ahead
   ahead-small i p = sizes-small _ (λ j l. on-on-le (before B j i) (eqb (poolIndex B j) p) (size B j))
 
-  pub placement-small : (p : ℕ) → placement B p ≤ bidLimit * quantityLimit
+  pub placement-small : (p : ℕ) → placement B p ≤ sizeTotal
   unfolding placement
   placement-small p = sizes-small _ (λ i l. omega (arith, on-le (eqb (poolIndex B i) p) (usedAmount B i), used-size i l))
 
-  pub ahead-cost-small : (i S : ℕ) → cost B (ahead B i) S ≤ amountLimit
-  ahead-cost-small i S = omega (arith, ahead-cost i S, costs-small (greatest.ahead (before B) i) (member S))
-
   pub cut-small : (S : ℕ) → cut B S ≤ amountLimit
-  cut-small S = omega (arith, ahead-cost-small 0 S)
+  cut-small S = omega (arith, ahead-cost 0 S, costs-small (greatest.ahead (before B) 0) (member S))
 
   pub slack-small : (k S : ℕ) → slackAfter B k S ≤ amountLimit
   unfolding slackAfter slack

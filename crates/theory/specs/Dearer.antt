@@ -122,4 +122,5 @@ dearer B bids i l h k d c e b f =
       best-used B ok c b i l,
       best-used (rebid B bids) ok' e f i l,
     ) in
-    sides-say (purchase B i) (c .accepted i) (e .accepted i) (size B i) (b .feasible .amounts i l) (omega (arith, f .feasible .amounts i l, sizes B bids i l ok ok' d i l)) less
+    let said = sides-say (purchase B i) (c .accepted i) (e .accepted i) (size B i) (b .feasible .amounts i l) (omega (arith, f .feasible .amounts i l, sizes B bids i l ok ok' d i l)) less in
+    (λ q. omega (arith, said .0 q), λ q. omega (arith, said .1 q))

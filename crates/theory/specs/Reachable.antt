@@ -22,7 +22,7 @@ use Rattle.theory.specs.CutClearing.{cutUsed, best-used}
 use Rattle.theory.specs.ClosedForms.{slack, slackAfter}
 use Rattle.theory.specs.ClosedBest.{slack-is}
 
--- "a pool reaches itself, and one step goes from a to b where line a to b is not full or line b to a carries something"
+-- A pool reaches itself, and one step goes from a to b where line a to b is not full or line b to a carries something.
 pub data Reaches (B : Book) (flow : ℕ → ℕ → ℕ) (q : ℕ) : ℕ → Type 0 where
   itself : Reaches B flow q q
   step : (a b : ℕ) → a < B .m → b < B .m → Reaches B flow q a → (flow a b < capacity B a b) ⊎ (0 < flow b a) → Reaches B flow q b

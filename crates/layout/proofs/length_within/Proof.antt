@@ -1,30 +1,16 @@
 -- `length_within` meets its contract: the closed form of the length.
 use native.Mathlib.Omega.{arith}
-use Prim.Native.Nat.{_^_, _≤_}
-use mathlib.Core.Path.{_≡_}
-use mathlib.Core.List.{[], _∷_}
-use lib.ListN.{getD}
-use Rattle.plan.specs.Plan.{power-small}
-use Rattle.layout.specs.Lengths.{LengthsFit, lengths-fit, plan-count, subsets-at}
+use Rattle.layout.specs.Lengths.{LengthsFit, lengths-fit, plan-count, subsets-within}
 use borrow.Author.Needs.{needs}
 use Rattle.layout.proofs.length_within.Statement.{statement}
 use Rattle.layout.proofs.length_within.Tie as tie
 
-mul-sets : tie.Need-mul-sets
-mul-sets c = search needs
+subset-count-requires : tie.Need-subset-count-requires
+subset-count-requires c κs = search needs
 
-array-read-sets : tie.Need-array-read-sets
-array-read-sets c = search needs
-
--- how many sets of pools there are, as the code has it, and that the products with it are small
-sets : (c : tie.Start) → getD (1 ∷ 2 ∷ 4 ∷ 8 ∷ 16 ∷ []) (c .args .m) 0 ≡ 2 ^ (c .args .m)
-sets c = subsets-at (c .args .m) (c .pre .1 .0)
-
-few : (c : tie.Start) → getD (1 ∷ 2 ∷ 4 ∷ 8 ∷ 16 ∷ []) (c .args .m) 0 ≤ 16
-few c = omega (arith, sets c, power-small (c .args .m) (c .pre .1 .0))
-
-small : (c : tie.Start) → LengthsFit (c .args .n) (c .args .m) (getD (1 ∷ 2 ∷ 4 ∷ 8 ∷ 16 ∷ []) (c .args .m) 0)
-small c = lengths-fit _ _ _ (c .pre .0) (c .pre .1 .0) (few c)
+-- the products with the count of sets are small
+small : (c : tie.After-subset-count) → LengthsFit (c .before .args .n) (c .before .args .m) (c .subset-count .result)
+small c = lengths-fit _ _ _ (c .before .pre .0) (c .before .pre .1 .0) (c .subset-count .ensures .1)
 
 mul-lines : tie.Need-mul-lines
 mul-lines c = omega (arith, small c)
@@ -48,10 +34,10 @@ add-result-2 : tie.Need-add-result-2
 add-result-2 c = search needs
 
 mul-result-5 : tie.Need-mul-result-5
-mul-result-5 c = omega (arith, few c)
+mul-result-5 c = omega (arith, small c)
 
 add-result-3 : tie.Need-add-result-3
-add-result-3 c = omega (arith, few c)
+add-result-3 c = omega (arith, small c)
 
 mul-result-6 : tie.Need-mul-result-6
 mul-result-6 c = omega (arith, small c)
@@ -87,14 +73,15 @@ add-result-9 : tie.Need-add-result-9
 add-result-9 c = omega (arith, small c)
 
 returns : tie.Need-returns
-returns c = plan-count (c .args .n) (c .args .m) _ (c .pre .1 .1) (sets c)
+returns c =
+    let start = c .before in
+    plan-count (start .args .n) (start .args .m) _ (start .pre .1 .1) (subsets-within (c .subset-count .ensures .0) (start .pre .1 .0))
 
 pub length-within-spec : {M : Type 1} → statement M
 length-within-spec =
     tie.close
     (tie.spec
-    mul-sets
-    array-read-sets
+    subset-count-requires
     mul-lines
     mul-result
     mul-result-2

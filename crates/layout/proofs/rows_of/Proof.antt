@@ -4,21 +4,21 @@ use Prim.Native.Nat.{ℕ, _*_}
 use native.Mathlib.Omega.{arith}
 use borrow.Author.Needs.{needs}
 use Rattle.plan.specs.Names.{rowTable}
-use Rattle.layout.specs.Lengths.{product-small, subsets-at}
+use Rattle.layout.specs.Lengths.{product-small, subsets-within}
 use Rattle.layout.proofs.rows_of.Statement.{statement}
 use Rattle.layout.proofs.rows_of.Tie as tie
 
 mul-lines : tie.Need-mul-lines
 mul-lines c = omega (arith, product-small (c .args .m) (c .args .m) 4 4 (c .pre) (c .pre))
 
-mul-sets : tie.Need-mul-sets
-mul-sets c = search needs
-
-array-read-sets : tie.Need-array-read-sets
-array-read-sets c = search needs
+subset-count-requires : tie.Need-subset-count-requires
+subset-count-requires c κs = search needs
 
 returns : tie.Need-returns
-returns c = ap (λ (sets : ℕ). rowTable (c .args .n) (c .args .m) (c .args .m * c .args .m) sets) (subsets-at (c .args .m) (c .pre))
+returns c =
+    let start = c .before in
+    let a = start .args in
+    ap (λ (sets : ℕ). rowTable (a .n) (a .m) (a .m * a .m) sets) (subsets-within (c .subset-count .ensures .0) (start .pre))
 
 pub rows-of-spec : {M : Type 1} → statement M
-rows-of-spec = tie.close (tie.spec mul-lines mul-sets array-read-sets returns)
+rows-of-spec = tie.close (tie.spec mul-lines subset-count-requires returns)

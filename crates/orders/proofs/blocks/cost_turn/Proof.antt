@@ -1,6 +1,6 @@
 -- `cost_turn` meets its contract: the sum first, then the orders of a running minimum.
-use mathlib.Core.Path.{ap, _∙_}
-use Prim.Native.Nat.{ℕ, _-_}
+use mathlib.Core.Path.{_≡_, ap, _∙_}
+use Prim.Native.Nat.{ℕ, _-_, _^_}
 use native.Mathlib.Omega.{arith}
 use Rattle.plan.specs.Orders.{sum}
 use Rattle.plan.specs.Names.{Temporary, Cut, Subset}
@@ -9,22 +9,26 @@ use Rattle.plan.specs.Running.{lowered}
 use Rattle.plan.specs.Blocks.{costTurn}
 use Rattle.orders.specs.Walk.{nameOf, at-place, named-next}
 use borrow.Author.Needs.{needs}
+use Rattle.layout.specs.Lengths.{subsets-within}
 use Rattle.orders.proofs.blocks.cost_turn.Statement.{statement}
 use Rattle.orders.proofs.blocks.cost_turn.Tie as tie
 
 subset-count-requires : tie.Need-subset-count-requires
 subset-count-requires c κs = search needs
 
+sets : (c : tie.After-subset-count) → c .subset-count .result ≡ 2 ^ (c .before .before .args .m)
+sets c = subsets-within (c .subset-count .ensures .0) (omega arith)
+
 sub-t10 : tie.Need-sub-t10
-sub-t10 c = search needs
+sub-t10 c = omega (arith, sets c)
 
 sub-t11 : tie.Need-sub-t11
-sub-t11 c = search needs
+sub-t11 c = omega (arith, sets c)
 
 returns : tie.Need-returns
 returns c =
     let a = c .before .before .args in
-    ap (λ (k : ℕ). sum (Temporary 2) (Cut (a .s)) (Subset (k - 1 - c .before .before .args .s))) (c .subset-count .ensures .0) ∙ at-place (costTurn (a .m) (nameOf (a .d)) (a .s)) _ 0 (omega (arith, c .before .if1 .taken))
+    ap (λ (k : ℕ). sum (Temporary 2) (Cut (a .s)) (Subset (k - 1 - c .before .before .args .s))) (sets c) ∙ at-place (costTurn (a .m) (nameOf (a .d)) (a .s)) _ 0 (omega (arith, c .before .if1 .taken))
 
 sub-lowered-order : tie.Need-sub-lowered-order
 sub-lowered-order c = search needs

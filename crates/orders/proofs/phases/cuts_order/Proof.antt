@@ -3,7 +3,7 @@ use mathlib.Core.Path.{refl, ap, _∙_}
 use Prim.Native.Nat.{ℕ, _+_, _*_}
 use Rattle.plan.specs.Names.{Demand}
 use native.Mathlib.Omega.{arith}
-use Rattle.layout.specs.Lengths.{product-small}
+use Rattle.layout.specs.Lengths.{product-small, subsets-within}
 use Rattle.orders.specs.Walk.{subset-lowest, at-left, at-right, at-rep, at-single, at-grid, at-place}
 use borrow.Author.Needs.{needs}
 use Rattle.orders.proofs.phases.cuts_order.Statement.{statement}
@@ -68,7 +68,8 @@ returns-4 : tie.Need-returns-4
 returns-4 c =
     let a = c .before .before .before .before .before .before .before .args in
     let s = c .before .before .before .subset-count in
-    at-right _ _ ((a .n) * (a .m)) _ _ (omega arith) (omega arith) (at-right _ _ ((a .n) * (a .m)) _ _ (omega arith) (omega arith) (at-right _ _ ((a .m) * (1 + (a .n) * 2)) _ _ (omega arith) (omega arith) (at-left _ _ (s .result) _ _ (omega (arith, (s .ensures .0))) (omega arith) (at-single _ _ _ _ ((c .subset-order .ensures) ∙ subset-lowest _ _ Demand _ (ap (λ (k : ℕ). Demand k) ((c .before .lowest-pool .ensures .0))))))))
+    let sets = subsets-within (s .ensures .0) (omega arith) in
+    at-right _ _ ((a .n) * (a .m)) _ _ (omega arith) (omega arith) (at-right _ _ ((a .n) * (a .m)) _ _ (omega arith) (omega arith) (at-right _ _ ((a .m) * (1 + (a .n) * 2)) _ _ (omega arith) (omega arith) (at-left _ _ (s .result) _ _ (omega (arith, sets)) (omega arith) (at-single _ _ _ _ ((c .subset-order .ensures) ∙ subset-lowest _ _ Demand _ (ap (λ (k : ℕ). Demand k) ((c .before .lowest-pool .ensures .0))))))))
 
 mul-cut : tie.Need-mul-cut
 mul-cut c = omega (arith, product-small (c .before .before .before .before .before .args .m) (c .before .before .before .before .before .args .m) 4 4 (omega arith) (omega arith))
@@ -89,7 +90,8 @@ returns-5 : tie.Need-returns-5
 returns-5 c =
     let a = c .before .before .before .before .before .before .args in
     let s = c .before .before .subset-count in
-    at-right _ _ ((a .n) * (a .m)) _ _ (omega arith) (omega arith) (at-right _ _ ((a .n) * (a .m)) _ _ (omega arith) (omega arith) (at-right _ _ ((a .m) * (1 + (a .n) * 2)) _ _ (omega arith) (omega arith) (at-right _ _ (s .result) _ _ (omega (arith, (s .ensures .0))) (omega arith) (at-rep _ _ _ _ _ _ (omega arith) ((c .cut-order .ensures))))))
+    let sets = subsets-within (s .ensures .0) (omega arith) in
+    at-right _ _ ((a .n) * (a .m)) _ _ (omega arith) (omega arith) (at-right _ _ ((a .n) * (a .m)) _ _ (omega arith) (omega arith) (at-right _ _ ((a .m) * (1 + (a .n) * 2)) _ _ (omega arith) (omega arith) (at-right _ _ (s .result) _ _ (omega (arith, sets)) (omega arith) (at-rep _ _ _ _ _ _ (omega arith) ((c .cut-order .ensures))))))
 
 pub cuts-order-spec : {M : Type 1} → statement M
 cuts-order-spec =

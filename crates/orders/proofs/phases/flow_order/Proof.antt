@@ -1,7 +1,7 @@
 -- `flow_order` meets its contract: each return is the tree's order at its place.
 use Prim.Native.Nat.{_+_, _*_}
 use native.Mathlib.Omega.{arith}
-use Rattle.layout.specs.Lengths.{product-small}
+use Rattle.layout.specs.Lengths.{product-small, subsets-within}
 use Rattle.orders.specs.Walk.{at-left, at-right, at-rep}
 use borrow.Author.Needs.{needs}
 use Rattle.orders.proofs.phases.flow_order.Statement.{statement}
@@ -40,7 +40,8 @@ slack-order-requires c κs = search needs
 returns-2 : tie.Need-returns-2
 returns-2 c =
     let s = c .before .before .subset-count in
-    at-right _ _ ((c .before .before .before .before .args .m) * (1 + (c .before .before .before .before .args .n) * 2)) _ _ (omega arith) (omega arith) (at-left _ _ ((s .result) * 2) _ _ (omega (arith, (s .ensures .0))) (omega arith) ((c .slack-order .ensures)))
+    let sets = subsets-within (s .ensures .0) (omega arith) in
+    at-right _ _ ((c .before .before .before .before .args .m) * (1 + (c .before .before .before .before .args .n) * 2)) _ _ (omega arith) (omega arith) (at-left _ _ ((s .result) * 2) _ _ (omega (arith, sets)) (omega arith) ((c .slack-order .ensures)))
 
 mul-line : tie.Need-mul-line
 mul-line c = search needs
@@ -60,7 +61,8 @@ line-order-requires c κs = search needs
 returns-3 : tie.Need-returns-3
 returns-3 c =
     let s = c .before .before .subset-count in
-    at-right _ _ ((c .before .before .before .before .args .m) * (1 + (c .before .before .before .before .args .n) * 2)) _ _ (omega arith) (omega arith) (at-right _ _ ((s .result) * 2) _ _ (omega (arith, (s .ensures .0))) (omega arith) (at-rep _ _ _ _ _ _ (omega (arith, (s .ensures .0))) ((c .line-order .ensures))))
+    let sets = subsets-within (s .ensures .0) (omega arith) in
+    at-right _ _ ((c .before .before .before .before .args .m) * (1 + (c .before .before .before .before .args .n) * 2)) _ _ (omega arith) (omega arith) (at-right _ _ ((s .result) * 2) _ _ (omega (arith, sets)) (omega arith) (at-rep _ _ _ _ _ _ (omega (arith, sets)) ((c .line-order .ensures))))
 
 pub flow-order-spec : {M : Type 1} → statement M
 flow-order-spec =

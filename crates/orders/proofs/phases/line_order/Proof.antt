@@ -3,6 +3,7 @@ use Prim.Native.Nat.{_+_, _*_}
 use native.Mathlib.Omega.{arith}
 use Rattle.orders.specs.Walk.{at-left, at-right}
 use borrow.Author.Needs.{needs}
+use Rattle.layout.specs.Lengths.{subsets-within}
 use Rattle.orders.proofs.phases.line_order.Statement.{statement}
 use Rattle.orders.proofs.phases.line_order.Tie as tie
 
@@ -27,7 +28,8 @@ rest-order-requires c κs = search needs
 returns : tie.Need-returns
 returns c =
     let s = c .before .before .subset-count in
-    at-left _ _ (1 + (s .result) * 4) _ _ (omega (arith, (s .ensures .0))) (omega arith) ((c .rest-order .ensures))
+    let sets = subsets-within (s .ensures .0) (omega arith) in
+    at-left _ _ (1 + (s .result) * 4) _ _ (omega (arith, sets)) (omega arith) ((c .rest-order .ensures))
 
 take-order-requires : tie.Need-take-order-requires
 take-order-requires c κs = search needs
@@ -35,7 +37,8 @@ take-order-requires c κs = search needs
 returns-2 : tie.Need-returns-2
 returns-2 c =
     let s = c .before .before .subset-count in
-    at-right _ _ (1 + (s .result) * 4) _ _ (omega (arith, (s .ensures .0))) (omega arith) ((c .take-order .ensures))
+    let sets = subsets-within (s .ensures .0) (omega arith) in
+    at-right _ _ (1 + (s .result) * 4) _ _ (omega (arith, sets)) (omega arith) ((c .take-order .ensures))
 
 pub line-order-spec : {M : Type 1} → statement M
 line-order-spec =

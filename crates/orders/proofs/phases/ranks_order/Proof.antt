@@ -2,7 +2,7 @@
 use mathlib.Core.Path.{refl}
 use Prim.Native.Nat.{_+_, _*_}
 use native.Mathlib.Omega.{arith}
-use Rattle.layout.specs.Lengths.{product-small}
+use Rattle.layout.specs.Lengths.{product-small, subsets-within}
 use Rattle.orders.specs.Walk.{rank-total, rank-within, at-left, at-right, at-rep, at-blocks, at-single, at-grid, at-place}
 use borrow.Author.Needs.{needs}
 use Rattle.orders.proofs.phases.ranks_order.Statement.{statement}
@@ -60,13 +60,15 @@ rem-rank-order c = search needs
 rank-order-requires : tie.Need-rank-order-requires
 rank-order-requires c κs =
     let s = c .before .subset-count in
-    (omega arith, rank-within (c .before .before .before .args .n) (c .before .before .before .args .m) (s .result) _ (s .ensures .0))
+    let sets = subsets-within (s .ensures .0) (omega arith) in
+    (omega arith, rank-within (c .before .before .before .args .n) (c .before .before .before .args .m) (s .result) _ sets)
 
 returns-2 : tie.Need-returns-2
 returns-2 c =
     let a = c .before .before .before .before .args in
     let s = c .before .before .subset-count in
-    at-right _ _ ((a .n) * ((a .m) + (a .n) * (1 + (a .m) * 2))) _ _ (omega arith) (omega arith) (at-left _ _ ((a .n) * (1 + (s .result) * 6)) _ _ (rank-total (a .n) (a .m) (s .result) (s .ensures .0)) (omega arith) (at-rep _ _ _ _ _ _ (omega (arith, (s .ensures .0))) ((c .rank-order .ensures))))
+    let sets = subsets-within (s .ensures .0) (omega arith) in
+    at-right _ _ ((a .n) * ((a .m) + (a .n) * (1 + (a .m) * 2))) _ _ (omega arith) (omega arith) (at-left _ _ ((a .n) * (1 + (s .result) * 6)) _ _ (rank-total (a .n) (a .m) (s .result) sets) (omega arith) (at-rep _ _ _ _ _ _ (omega (arith, sets)) ((c .rank-order .ensures))))
 
 mul-pairs : tie.Need-mul-pairs
 mul-pairs c = search needs
@@ -81,7 +83,8 @@ returns-3 : tie.Need-returns-3
 returns-3 c =
     let a = c .before .before .before .before .args in
     let s = c .before .before .subset-count in
-    at-right _ _ ((a .n) * ((a .m) + (a .n) * (1 + (a .m) * 2))) _ _ (omega arith) (omega arith) (at-right _ _ ((a .n) * (1 + (s .result) * 6)) _ _ (rank-total (a .n) (a .m) (s .result) (s .ensures .0)) (omega arith) (at-left _ _ ((a .n) * (a .m)) _ _ (omega arith) (omega arith) (at-grid _ _ _ _ _ (at-place _ _ 0 refl))))
+    let sets = subsets-within (s .ensures .0) (omega arith) in
+    at-right _ _ ((a .n) * ((a .m) + (a .n) * (1 + (a .m) * 2))) _ _ (omega arith) (omega arith) (at-right _ _ ((a .n) * (1 + (s .result) * 6)) _ _ (rank-total (a .n) (a .m) (s .result) sets) (omega arith) (at-left _ _ ((a .n) * (a .m)) _ _ (omega arith) (omega arith) (at-grid _ _ _ _ _ (at-place _ _ 0 refl))))
 
 div-rank-order-2 : tie.Need-div-rank-order-2
 div-rank-order-2 c = search needs
@@ -92,19 +95,22 @@ rem-rank-order-2 c = search needs
 rank-order-requires-2 : tie.Need-rank-order-requires-2
 rank-order-requires-2 c κs =
     let s = c .before .before .before .subset-count in
-    (omega arith, rank-within (c .before .before .before .before .before .args .n) (c .before .before .before .before .before .args .m) (s .result) _ (s .ensures .0))
+    let sets = subsets-within (s .ensures .0) (omega arith) in
+    (omega arith, rank-within (c .before .before .before .before .before .args .n) (c .before .before .before .before .before .args .m) (s .result) _ sets)
 
 returns-4 : tie.Need-returns-4
 returns-4 c =
     let a = c .before .before .before .before .before .before .args in
     let s = c .before .before .before .before .subset-count in
-    at-right _ _ ((a .n) * ((a .m) + (a .n) * (1 + (a .m) * 2))) _ _ (omega arith) (omega arith) (at-right _ _ ((a .n) * (1 + (s .result) * 6)) _ _ (rank-total (a .n) (a .m) (s .result) (s .ensures .0)) (omega arith) (at-right _ _ ((a .n) * (a .m)) _ _ (omega arith) (omega arith) (at-left _ _ ((a .n) * (1 + (s .result) * 6)) _ _ (rank-total (a .n) (a .m) (s .result) (s .ensures .0)) (omega arith) (at-rep _ _ _ _ _ _ (omega (arith, (s .ensures .0))) ((c .rank-order2 .ensures))))))
+    let sets = subsets-within (s .ensures .0) (omega arith) in
+    at-right _ _ ((a .n) * ((a .m) + (a .n) * (1 + (a .m) * 2))) _ _ (omega arith) (omega arith) (at-right _ _ ((a .n) * (1 + (s .result) * 6)) _ _ (rank-total (a .n) (a .m) (s .result) sets) (omega arith) (at-right _ _ ((a .n) * (a .m)) _ _ (omega arith) (omega arith) (at-left _ _ ((a .n) * (1 + (s .result) * 6)) _ _ (rank-total (a .n) (a .m) (s .result) sets) (omega arith) (at-rep _ _ _ _ _ _ (omega (arith, sets)) ((c .rank-order2 .ensures))))))
 
 returns-5 : tie.Need-returns-5
 returns-5 c =
     let a = c .before .before .before .before .before .before .args in
     let s = c .before .before .before .before .subset-count in
-    at-right _ _ ((a .n) * ((a .m) + (a .n) * (1 + (a .m) * 2))) _ _ (omega arith) (omega arith) (at-right _ _ ((a .n) * (1 + (s .result) * 6)) _ _ (rank-total (a .n) (a .m) (s .result) (s .ensures .0)) (omega arith) (at-right _ _ ((a .n) * (a .m)) _ _ (omega arith) (omega arith) (at-right _ _ ((a .n) * (1 + (s .result) * 6)) _ _ (rank-total (a .n) (a .m) (s .result) (s .ensures .0)) (omega arith) (at-left _ _ (a .n) _ _ (omega arith) (omega arith) (at-single _ _ _ _ (at-place _ _ 0 refl))))))
+    let sets = subsets-within (s .ensures .0) (omega arith) in
+    at-right _ _ ((a .n) * ((a .m) + (a .n) * (1 + (a .m) * 2))) _ _ (omega arith) (omega arith) (at-right _ _ ((a .n) * (1 + (s .result) * 6)) _ _ (rank-total (a .n) (a .m) (s .result) sets) (omega arith) (at-right _ _ ((a .n) * (a .m)) _ _ (omega arith) (omega arith) (at-right _ _ ((a .n) * (1 + (s .result) * 6)) _ _ (rank-total (a .n) (a .m) (s .result) sets) (omega arith) (at-left _ _ (a .n) _ _ (omega arith) (omega arith) (at-single _ _ _ _ (at-place _ _ 0 refl))))))
 
 amount-order-requires : tie.Need-amount-order-requires
 amount-order-requires c κs = search needs
@@ -113,7 +119,8 @@ returns-6 : tie.Need-returns-6
 returns-6 c =
     let a = c .before .before .before .before .before .before .before .args in
     let s = c .before .before .before .before .before .subset-count in
-    at-right _ _ ((a .n) * ((a .m) + (a .n) * (1 + (a .m) * 2))) _ _ (omega arith) (omega arith) (at-right _ _ ((a .n) * (1 + (s .result) * 6)) _ _ (rank-total (a .n) (a .m) (s .result) (s .ensures .0)) (omega arith) (at-right _ _ ((a .n) * (a .m)) _ _ (omega arith) (omega arith) (at-right _ _ ((a .n) * (1 + (s .result) * 6)) _ _ (rank-total (a .n) (a .m) (s .result) (s .ensures .0)) (omega arith) (at-right _ _ (a .n) _ _ (omega arith) (omega arith) (at-blocks _ _ _ _ _ ((c .amount-order .ensures)))))))
+    let sets = subsets-within (s .ensures .0) (omega arith) in
+    at-right _ _ ((a .n) * ((a .m) + (a .n) * (1 + (a .m) * 2))) _ _ (omega arith) (omega arith) (at-right _ _ ((a .n) * (1 + (s .result) * 6)) _ _ (rank-total (a .n) (a .m) (s .result) sets) (omega arith) (at-right _ _ ((a .n) * (a .m)) _ _ (omega arith) (omega arith) (at-right _ _ ((a .n) * (1 + (s .result) * 6)) _ _ (rank-total (a .n) (a .m) (s .result) sets) (omega arith) (at-right _ _ (a .n) _ _ (omega arith) (omega arith) (at-blocks _ _ _ _ _ ((c .amount-order .ensures)))))))
 
 pub ranks-order-spec : {M : Type 1} → statement M
 ranks-order-spec =

@@ -1,7 +1,7 @@
 -- `cuts_length` meets its contract: the parts add up to the size.
 use Prim.Native.Nat.{_+_, _*_}
 use native.Mathlib.Omega.{arith}
-use Rattle.layout.specs.Lengths.{product-small}
+use Rattle.layout.specs.Lengths.{product-small, subsets-within}
 use Rattle.orders.specs.Walk.{cuts-count}
 use borrow.Author.Needs.{needs}
 use Rattle.orders.proofs.work.cuts_length.Statement.{statement}
@@ -60,7 +60,8 @@ returns : tie.Need-returns
 returns c =
     let a = c .before .args in
     let s = c .subset-count in
-    (cuts-count (a .n) (a .m) (s .result) (s .ensures .0), omega (arith, product-small (a .n) (a .m) 64 4 (omega arith) (omega arith), product-small (a .m) (1 + (a .n) * 2) 4 129 (omega arith) (omega arith), product-small (a .m) (a .m) 4 4 (omega arith) (omega arith), product-small (s .result) (2 + (a .m) * (a .m)) 16 18 (omega arith) (omega (arith, product-small (a .m) (a .m) 4 4 (omega arith) (omega arith)))))
+    let sets = subsets-within (s .ensures .0) (omega arith) in
+    (cuts-count (a .n) (a .m) (s .result) sets, omega (arith, product-small (a .n) (a .m) 64 4 (omega arith) (omega arith), product-small (a .m) (1 + (a .n) * 2) 4 129 (omega arith) (omega arith), product-small (a .m) (a .m) 4 4 (omega arith) (omega arith), product-small (s .result) (2 + (a .m) * (a .m)) 16 18 (omega arith) (omega (arith, product-small (a .m) (a .m) 4 4 (omega arith) (omega arith)))))
 
 pub cuts-length-spec : {M : Type 1} → statement M
 cuts-length-spec =

@@ -1,7 +1,7 @@
 -- `flow_length` meets its contract: the parts add up to the size.
 use Prim.Native.Nat.{_+_, _*_}
 use native.Mathlib.Omega.{arith}
-use Rattle.layout.specs.Lengths.{product-small}
+use Rattle.layout.specs.Lengths.{product-small, subsets-within}
 use Rattle.orders.specs.Walk.{flow-count}
 use borrow.Author.Needs.{needs}
 use Rattle.orders.proofs.work.flow_length.Statement.{statement}
@@ -54,7 +54,8 @@ returns : tie.Need-returns
 returns c =
     let a = c .before .args in
     let s = c .subset-count in
-    (flow-count (a .n) (a .m) (s .result) (s .ensures .0), omega (arith, product-small (a .m) (1 + (a .n) * 2) 4 129 (omega arith) (omega arith), product-small (a .m) (a .m) 4 4 (omega arith) (omega arith), product-small ((a .m) * (a .m)) (2 + (s .result) * 5) 16 82 (omega (arith, product-small (a .m) (a .m) 4 4 (omega arith) (omega arith))) (omega arith)))
+    let sets = subsets-within (s .ensures .0) (omega arith) in
+    (flow-count (a .n) (a .m) (s .result) sets, omega (arith, product-small (a .m) (1 + (a .n) * 2) 4 129 (omega arith) (omega arith), product-small (a .m) (a .m) 4 4 (omega arith) (omega arith), product-small ((a .m) * (a .m)) (2 + (s .result) * 5) 16 82 (omega (arith, product-small (a .m) (a .m) 4 4 (omega arith) (omega arith))) (omega arith)))
 
 pub flow-length-spec : {M : Type 1} → statement M
 flow-length-spec =

@@ -1,7 +1,7 @@
 -- `ranks_length` meets its contract: the parts add up to the size.
 use Prim.Native.Nat.{_+_, _*_}
 use native.Mathlib.Omega.{arith}
-use Rattle.layout.specs.Lengths.{product-small}
+use Rattle.layout.specs.Lengths.{product-small, subsets-within}
 use Rattle.orders.specs.Walk.{ranks-count}
 use borrow.Author.Needs.{needs}
 use Rattle.orders.proofs.work.ranks_length.Statement.{statement}
@@ -47,7 +47,8 @@ returns : tie.Need-returns
 returns c =
     let a = c .before .args in
     let s = c .subset-count in
-    (ranks-count (a .n) (a .m) (s .result) (s .ensures .0), omega (arith, product-small (a .n) (1 + (a .m) * 2) 64 9 (omega arith) (omega arith), product-small (a .n) (7 + (a .m) * 2 + (s .result) * 12 + (a .n) * (1 + (a .m) * 2)) 64 783 (omega arith) (omega (arith, product-small (a .n) (1 + (a .m) * 2) 64 9 (omega arith) (omega arith)))))
+    let sets = subsets-within (s .ensures .0) (omega arith) in
+    (ranks-count (a .n) (a .m) (s .result) sets, omega (arith, product-small (a .n) (1 + (a .m) * 2) 64 9 (omega arith) (omega arith), product-small (a .n) (7 + (a .m) * 2 + (s .result) * 12 + (a .n) * (1 + (a .m) * 2)) 64 783 (omega arith) (omega (arith, product-small (a .n) (1 + (a .m) * 2) 64 9 (omega arith) (omega arith)))))
 
 pub ranks-length-spec : {M : Type 1} → statement M
 ranks-length-spec =
