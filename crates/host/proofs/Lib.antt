@@ -1,3 +1,3 @@
--- What the proofs of the two calls share.
+-- What the proofs of the two calls share, and the host's walk by computation.
 pub mod Numbers
-pub mod Calls
+pub mod WalkFacts

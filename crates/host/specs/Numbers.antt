@@ -1,18 +1,23 @@
--- Bytes with the lowest first hold the number that they were made of (`read-back`), so the 8 bytes of the total hold the total (`total-read-back`).
-use Prim.Native.Nat.{ℕ, zero, suc, _+_, _*_, _/_, _^_, _≤_, _<_}
-use mathlib.Core.Path.{_≡_, refl, ap}
-use mathlib.Core.List.{List, [], _∷_}
+-- Bytes with the lowest first hold the number that they were made of (`read-back`), so the host can read the total from its 8 bytes
+-- (`total-read-back`), and the counts and the next position from their 24 (`counts-read-back`), whatever slices were lent.
+use Prim.Native.Nat.{ℕ, zero, suc, _+_, _*_, _/_, _≤_, _<_}
+use mathlib.Core.Path.{_≡_, refl, sym, ap, _∙_}
+use mathlib.Core.List.{List, [], _∷_, _++_}
 use native.Mathlib.Omega.{arith}
-use native.Mathlib.Nat.{mul-le-mul, mul-le-mul-left, pow-le-pow-left}
-use lib.ListN.{length}
+use native.Mathlib.Nat.{le-refl, add-le-add, mul-le-mul, mul-le-mul-left, pow-le-pow-left}
+use lib.ListN.{length, take, drop}
+use lib.Seq.{take-at, drop-at, take-all, drop-drop}
 use Rattle.definitions.specs.Limits.{bidLimit, poolLimit}
 use Rattle.definitions.specs.Answers.{none}
 use Rattle.definitions.specs.Calls.{countsRefusal}
 use Rattle.definitions.specs.Outcome.{orderLimit}
-use Rattle.definitions.specs.Plan.{lowestFirst}
+use Rattle.definitions.specs.Plan.{lowestFirst, Written, writtenCounts, countBytes, totalRefusal, totalSlice, bytesRefusal, countsSlice}
 use Rattle.laws.specs.Sizes.{counted}
 use Rattle.plan.specs.Plan.{plan}
 use Rattle.plan.specs.List.{plan-length-limit}
+use Rattle.writer.specs.Calls.{write-within}
+use Rattle.writer.specs.Sequence.{orders-within, bytes-within}
+use Rattle.host.specs.Calls.{total-counts, total-given, bytes-writing, counts-given}
 
 -- the number that bytes hold, the lowest first
 unfoldable pub held : List ℕ → ℕ
@@ -34,26 +39,74 @@ unfolding held bytesLimit lowestFirst
 read-back zero v h = omega arith
 read-back (suc k) v h = omega (arith, read-back k (v / 256) (omega arith))
 
--- the plan's length is far below what 8 bytes hold
-power-small : (m : ℕ) → m ≤ poolLimit → 40 * (m + 1) ^ 6 ≤ 625000
-power-small m h = mul-le-mul-left 40 (pow-le-pow-left {n = m + 1} {m = 5} (omega arith) 6)
+-- ---- the limit on the plan's orders grows with the counts, and at the greatest counts 8 bytes hold 8 times as much
 
-limit-small : (n c : ℕ) → n ≤ bidLimit → c ≤ 625000 → n * (100 * n + c) ≤ 40409600
-limit-small n c h k =
-    let each : 100 * n + c ≤ 631400 = omega arith in
-    let product : n * (100 * n + c) ≤ 64 * 631400 = mul-le-mul h each in
-    product
+limit-grows : (n m a b : ℕ) → n ≤ a → m ≤ b → orderLimit n m ≤ orderLimit a b
+limit-grows n m a b h k =
+    let pools : m + 1 ≤ b + 1 = omega arith in
+    add-le-add (mul-le-mul h (add-le-add (mul-le-mul-left _ h) (mul-le-mul-left _ (pow-le-pow-left pools _)))) (le-refl _)
 
-limit-held : (n m : ℕ) → n ≤ bidLimit → m ≤ poolLimit → orderLimit n m < bytesLimit 8
+greatest-held : 8 * orderLimit bidLimit poolLimit < bytesLimit 8
 unfolding bytesLimit
-limit-held n m h k = omega (arith, limit-small n (40 * (m + 1) ^ 6) h (power-small m k))
+greatest-held = omega arith
 
-pub total-read-back : (n m : ℕ) → countsRefusal n m ≡ none → held (lowestFirst 8 (length (plan n m))) ≡ length (plan n m)
-total-read-back n m counts =
+-- so 8 bytes hold the plan's length, and the length of its bytes
+plan-held : (n m v : ℕ) → countsRefusal n m ≡ none → v ≤ 8 * length (plan n m) → v < bytesLimit 8
+plan-held n m v counts h =
     let limits = counted n m counts in
-    read-back 8 (length (plan n m))
-    (omega (
+    omega (
       arith,
       plan-length-limit n m (limits .bids) (limits .pools .least) (limits .pools .most),
-      limit-held n m (limits .bids) (limits .pools .most),
-    ))
+      limit-grows n m bidLimit poolLimit (limits .bids) (limits .pools .most),
+      greatest-held,
+    )
+
+-- ---- the total
+
+-- the slice of an accepted call for the total holds the total
+pub total-read-back : (n m : ℕ) (out : List ℕ) → totalRefusal n m (length out) ≡ none → held (totalSlice plan n m out) ≡ length (plan n m)
+total-read-back n m out accepted =
+    ap held (total-given plan n m out accepted)
+    ∙ read-back 8 (length (plan n m)) (plan-held n m _ (total-counts plan n m out accepted) (omega arith))
+
+-- ---- the writer's three numbers
+
+-- the number that the 8 bytes from an offset on hold
+abbrev pub heldFrom : (at : ℕ) → List ℕ → ℕ
+heldFrom at bytes = held (take 8 (drop at bytes))
+
+-- the three numbers that 24 bytes hold
+abbrev pub countsHeld : List ℕ → Written
+countsHeld out = record { bytes = heldFrom 0 out; orders = heldFrom 8 out; next = heldFrom 16 out }
+
+three-parts : (x y z : List ℕ) → length x ≡ 8 → length y ≡ 8 → length z ≡ 8
+    → (take 8 (drop 0 (x ++ (y ++ z))) ≡ x) × (take 8 (drop 8 (x ++ (y ++ z))) ≡ y) × (take 8 (drop 16 (x ++ (y ++ z))) ≡ z)
+three-parts x y z a b c =
+    let second : drop 8 (x ++ (y ++ z)) ≡ y ++ z = drop-at x (y ++ z) 8 a in
+    let third : drop 16 (x ++ (y ++ z)) ≡ z = sym (drop-drop 8 8 (x ++ (y ++ z))) ∙ ap (drop 8) second ∙ drop-at y z 8 b in
+    (take-at x (y ++ z) 8 a, ap (take 8) second ∙ take-at y z 8 b, ap (take 8) third ∙ take-all 8 z (omega arith))
+
+by-parts : (x y : Written) → x .bytes ≡ y .bytes → x .orders ≡ y .orders → x .next ≡ y .next → x ≡ y
+by-parts x y p q r = rw (sym p, sym q, sym r) refl
+
+three-held : (w : Written) → w .bytes < bytesLimit 8 → w .orders < bytesLimit 8 → w .next < bytesLimit 8 → countsHeld (countBytes w) ≡ w
+three-held w a b c =
+    let long : (v : ℕ) → length (lowestFirst 8 v) ≡ 8 = lowest-length 8 in
+    let parts = three-parts (lowestFirst 8 (w .bytes)) (lowestFirst 8 (w .orders)) (lowestFirst 8 (w .next)) (long _) (long _) (long _) in
+    by-parts (countsHeld (countBytes w)) w
+    (ap held (parts .0) ∙ read-back 8 (w .bytes) a)
+    (ap held (parts .1) ∙ read-back 8 (w .orders) b)
+    (ap held (parts .2) ∙ read-back 8 (w .next) c)
+
+-- the slice of an accepted call for the plan's bytes holds the counts of bytes and orders and the next position
+pub counts-read-back : (n m at : ℕ) (bytes out : List ℕ) → bytesRefusal plan n m at (length bytes) (length out) ≡ none
+    → countsHeld (countsSlice plan n m at (length bytes) out) ≡ writtenCounts plan n m at (length bytes)
+unfolding writtenCounts
+counts-read-back n m at bytes out accepted =
+    let within = write-within plan n m at (length bytes) (bytes-writing plan n m at bytes out accepted) in
+    let few = orders-within n m (within .counts) at (length bytes) (within .position) in
+    ap countsHeld (counts-given plan n m at bytes out accepted)
+    ∙ three-held (writtenCounts plan n m at (length bytes))
+    (plan-held n m _ (within .counts) (bytes-within n m (within .counts) at (length bytes)))
+    (plan-held n m _ (within .counts) (omega arith))
+    (plan-held n m _ (within .counts) (omega arith))

@@ -1,2 +1,3 @@
--- What the writer's loop keeps.
+-- What the writer's loop keeps, and a host's walk by computation.
 pub mod Filling
+pub mod WalkFacts

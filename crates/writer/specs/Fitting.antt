@@ -1,16 +1,18 @@
 -- Which of some orders fit in a number of bytes: one order at a time, and that one of the plan's always does in 8 (`some-fits`).
-use Prim.Native.Nat.{ℕ, suc, _-_, _≤_, _<_}
+use Prim.Native.Nat.{ℕ, suc, _+_, _-_, _*_, _≤_, _<_}
 use mathlib.Core.Path.{_≡_, refl, sym, ap, _∙_}
 use mathlib.Core.Bool.{Bool, true, false, cond}
 use mathlib.Core.List.{List, [], _∷_, _++_, append-nil, append-assoc}
 use native.Mathlib.Omega.{arith}
 use lib.Dec.{leb}
-use lib.ListN.{length, getD, take, drop}
+use lib.ListN.{length, getD, take, drop, length-append, take-append-drop}
 use lib.Seq.{drop-cons, take-suc}
 use borrow.Author.Tests.{le-leb, lt-leb}
 use Rattle.definitions.specs.declared.Order.{Order}
 use Rattle.definitions.specs.Bytes.{orderBytes, ordersBytes}
+use Rattle.definitions.specs.Machine.{AllWellFormed}
 use Rattle.definitions.specs.Plan.{fitting}
+use Rattle.codec.specs.OrderBytes.{at-most-eight}
 
 -- ---- the bytes of orders one after another
 
@@ -33,6 +35,19 @@ bytes-of-more os k d h =
     ap ordersBytes (take-suc os k d h)
     ∙ bytes-of-both (take k os) (getD os k d ∷ [])
     ∙ ap (λ (bytes : List ℕ). ordersBytes (take k os) ++ bytes) (bytes-of-one (getD os k d))
+
+-- those of a first part and of the rest
+pub bytes-in-parts : (k : ℕ) (os : List Order) → length (ordersBytes (take k os)) + length (ordersBytes (drop k os)) ≡ length (ordersBytes os)
+bytes-in-parts k os =
+    sym (length-append (ordersBytes (take k os)) (ordersBytes (drop k os)))
+    ∙ ap length (sym (bytes-of-both (take k os) (drop k os)))
+    ∙ ap (λ (xs : List Order). length (ordersBytes xs)) (take-append-drop k os)
+
+-- 8 bytes each at most
+pub bytes-at-most : (os : List Order) → AllWellFormed os → length (ordersBytes os) ≤ 8 * length os
+unfolding ordersBytes
+bytes-at-most [] w = omega arith
+bytes-at-most (o ∷ os) w = omega (arith, length-append (orderBytes o) (ordersBytes os), at-most-eight o (w .0), bytes-at-most os (w .1))
 
 -- ---- how many fit
 

@@ -1,5 +1,6 @@
--- What the writer's answer gives, which orders fit, and what calls one after another give.
+-- What the writer's answer gives, which orders fit, a host's walk from call to call, and what it sends.
 pub mod Counts
 pub mod Fitting
 pub mod Calls
+pub mod Walk
 pub mod Sequence

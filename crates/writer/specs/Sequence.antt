@@ -1,168 +1,251 @@
--- Calls of the writer one after another, each from the position that the one before gave, with any slices of 8 bytes or more, give
--- exactly the plan's bytes (`plan-sent`); the runner accepts these and runs the plan (`plan-run`).
-use Prim.Native.Nat.{ℕ, _+_, _≤_, _<_}
+-- Calls of the writer one after another, with any slices of 8 bytes or more: a call gives no orders at the end of the plan (`nothing-left`) and only
+-- there (`none-only-at-end`), so a walk stops at the end (`stops-at-end`) and does stop (`walk-stops`); a walk that has come to the end has sent
+-- exactly the plan's bytes (`plan-sent`), which the runner accepts and runs as the plan (`plan-run`).
+use Prim.Native.Nat.{ℕ, suc, _+_, _*_, _≤_, _<_}
 use mathlib.Core.Path.{_≡_, refl, sym, ap, ap₂, _∙_, subst}
-use mathlib.Core.Bool.{Bool}
+use mathlib.Core.Bool.{Bool, true, false, true≢false, cond}
 use mathlib.Core.List.{List, [], _∷_, _++_, append-nil, append-assoc}
 use native.Mathlib.Omega.{arith}
-use lib.ListN.{length, getD, take, drop, length-drop, take-append-drop, drop-of-length-le}
-use lib.Seq.{drop-drop, take-at}
-use borrow.Author.Tests.{le-ltb}
+use native.Mathlib.Nat.{add-zero}
+use lib.Dec.{ltb}
+use lib.ListN.{length, getD, take, drop, length-drop, take-append-drop}
+use lib.Seq.{drop-drop, drop-length, take-at}
+use borrow.Author.Tests.{le-ltb, ltb-true, ltb-false}
 use Rattle.definitions.specs.declared.Order.{Order}
 use Rattle.definitions.specs.declared.Order.the-variants.{Constant}
-use Rattle.definitions.specs.Answers.{Refusal, none, first}
+use Rattle.definitions.specs.Answers.{Refusal, none, numberOf, first}
 use Rattle.definitions.specs.Bytes.{ordersBytes}
 use Rattle.definitions.specs.Calls.{countsRefusal, runRefusal, runSheet, runCount}
-use Rattle.definitions.specs.Machine.{IsSheet, runOf, WellFormed}
+use Rattle.definitions.specs.Machine.{IsSheet, runOf, WellFormed, AllWellFormed}
 use Rattle.definitions.specs.Plan as plans
-use Rattle.definitions.specs.Plan.{Plan, fitting, roomRefusal, writeRefusal, ordersWritten, bytesWritten, writtenCounts, writeCounts, writeSlice}
+use Rattle.definitions.specs.Plan.{fitting, roomRefusal, writeRefusal, over, ordersWritten, bytesWritten, writtenCounts, writeCounts, writeSlice}
 use Rattle.laws.specs.Tests.{Lt?, less, more, lt?}
 use Rattle.laws.specs.Sizes.{counted}
 use Rattle.codec.specs.OrderBytes.{at-most-eight}
-use Rattle.runner.specs.Runs.{orders-bytes-run}
+use Rattle.runner.specs.Runs.{orders-bytes-run, run-leaves-sheet}
 use Rattle.plan.specs.Plan.{plan}
 use Rattle.plan.specs.List.{plan-well-formed, plan-orders}
 use Rattle.plan.specs.Asking.{within-total}
-use Rattle.writer.specs.Fitting.{bytes-of-both, bytes-of-none, fits-at-most, some-fits}
+use Rattle.writer.specs.Fitting.{bytes-of-both, bytes-of-none, bytes-in-parts, bytes-at-most, fits-none, fits-at-most, some-fits}
 use Rattle.writer.specs.Calls.{counts-accepted, slice-accepted}
+use Rattle.writer.specs.Walk.{Reply, goesOn, Walk, sentBefore, stopAt, afterCall, walk, replyOf, writerReply, Roomy}
 
--- the bytes that the calls give: of each slice lent, as many as were written
-unfoldable pub sent : Plan → (n m : ℕ) → (outs : List (List ℕ)) → (at : ℕ) → List ℕ
-sent P n m [] at = []
-sent P n m (out ∷ outs) at =
-    take (writeCounts P n m at (length out) .bytes) (writeSlice P n m at out)
-    ++ sent P n m outs (writeCounts P n m at (length out) .next)
-
--- the position that the last call gives
-unfoldable pub reached : Plan → (n m : ℕ) → (outs : List (List ℕ)) → (at : ℕ) → ℕ
-reached P n m [] at = at
-reached P n m (out ∷ outs) at = reached P n m outs (writeCounts P n m at (length out) .next)
-
--- each slice has 8 bytes at least
-abbrev pub Roomy : List (List ℕ) → Type 0
-Roomy [] = Unit {0}
-Roomy (out ∷ outs) = (8 ≤ length out) × Roomy outs
-
--- ---- one call
-
-module _ (P : Plan) (n m : ℕ) (counts : countsRefusal n m ≡ none) where
-  module _ (at : ℕ) (out : List ℕ) (within : at ≤ length (P n m)) (roomy : 8 ≤ length out) where
-    accepted : writeRefusal P n m at (length out) ≡ none
-    unfolding writeRefusal
-    accepted = ap (λ (r : Refusal). first r (roomRefusal (length out))) (within-total P n m at counts within) ∙ simp (le-ltb _ _ roomy)
-
-    moves : writeCounts P n m at (length out) .next ≡ at + fitting (drop at (P n m)) (length out)
-    unfolding writtenCounts ordersWritten
-    moves = ap (λ (w : plans.Written). w .next) (counts-accepted P n m at (length out) accepted)
-
-    -- not past the end
-    moves-within : writeCounts P n m at (length out) .next ≤ length (P n m)
-    moves-within = omega (arith, moves, fits-at-most (drop at (P n m)) (length out), length-drop at (P n m))
-
-    -- the bytes written are those given
-    gives : take (writeCounts P n m at (length out) .bytes) (writeSlice P n m at out) ≡ bytesWritten P n m at (length out)
-    unfolding writtenCounts
-    gives =
-        ap₂ take (ap (λ (w : plans.Written). w .bytes) (counts-accepted P n m at (length out) accepted)) (slice-accepted P n m at out accepted)
-        ∙ take-at (bytesWritten P n m at (length out)) (drop (length (bytesWritten P n m at (length out))) out) (length (bytesWritten P n m at (length out))) refl
-
-    -- with those of the orders from the next position on, they are the bytes from this one on
-    gives-next : take (writeCounts P n m at (length out) .bytes) (writeSlice P n m at out) ++ ordersBytes (drop (writeCounts P n m at (length out) .next) (P n m)) ≡ ordersBytes (drop at (P n m))
-    unfolding bytesWritten ordersWritten
-    gives-next =
-        let k : ℕ = fitting (drop at (P n m)) (length out) in
-        ap₂ (λ (xs : List ℕ) (next : ℕ). xs ++ ordersBytes (drop next (P n m))) gives moves
-        ∙ ap (λ (os : List Order). ordersBytes (take k (drop at (P n m))) ++ ordersBytes os) (sym (drop-drop k at (P n m)))
-        ∙ sym (bytes-of-both (take k (drop at (P n m))) (drop k (drop at (P n m))))
-        ∙ ap ordersBytes (take-append-drop k (drop at (P n m)))
-
-    -- and an order is written unless the plan has ended
-    moves-on : (d : Order) → at < length (P n m) → WellFormed (getD (P n m) at d) → at < writeCounts P n m at (length out) .next
-    moves-on d h sound = omega (arith, moves, some-fits (P n m) at d (length out) h (at-most-eight (getD (P n m) at d) sound) roomy)
-
-  -- ---- the calls one after another
-
-  pub reached-within : (outs : List (List ℕ)) (at : ℕ) → Roomy outs → at ≤ length (P n m) → reached P n m outs at ≤ length (P n m)
-  unfolding reached
-  reached-within [] at roomy within = within
-  reached-within (out ∷ outs) at roomy within =
-      reached-within outs (writeCounts P n m at (length out) .next) (roomy .1) (moves-within at out within (roomy .0))
-
-  -- nor is a position before the first
-  pub never-back : (outs : List (List ℕ)) (at : ℕ) → Roomy outs → at ≤ length (P n m) → at ≤ reached P n m outs at
-  unfolding reached
-  never-back [] at roomy within = omega arith
-  never-back (out ∷ outs) at roomy within =
-      omega (
-        arith,
-        moves at out within (roomy .0),
-        never-back outs (writeCounts P n m at (length out) .next) (roomy .1) (moves-within at out within (roomy .0)),
-      )
-
-  -- what the calls gave, and the bytes of the orders that are left
-  pub sent-and-left : (outs : List (List ℕ)) (at : ℕ) → Roomy outs → at ≤ length (P n m)
-      → sent P n m outs at ++ ordersBytes (drop (reached P n m outs at) (P n m)) ≡ ordersBytes (drop at (P n m))
-  unfolding sent reached
-  sent-and-left [] at roomy within = refl
-  sent-and-left (out ∷ outs) at roomy within =
-      let next : ℕ = writeCounts P n m at (length out) .next in
-      let bytes : List ℕ = take (writeCounts P n m at (length out) .bytes) (writeSlice P n m at out) in
-      append-assoc bytes (sent P n m outs next) (ordersBytes (drop (reached P n m outs next) (P n m)))
-      ∙ ap (λ (xs : List ℕ). bytes ++ xs) (sent-and-left outs next (roomy .1) (moves-within at out within (roomy .0)))
-      ∙ gives-next at out within (roomy .0)
-
-  -- calls until the end give the plan's bytes
-  pub sent-until-end : (outs : List (List ℕ)) → Roomy outs → reached P n m outs 0 ≡ length (P n m) → sent P n m outs 0 ≡ ordersBytes (P n m)
-  sent-until-end outs roomy end =
-      sym (append-nil (sent P n m outs 0))
-      ∙ ap (λ (xs : List ℕ). sent P n m outs 0 ++ xs) (sym nothing-left)
-      ∙ sent-and-left outs 0 roomy (omega arith)
-    where
-      nothing-left : ordersBytes (drop (reached P n m outs 0) (P n m)) ≡ []
-      nothing-left = ap ordersBytes (drop-of-length-le (P n m) (let h : length (P n m) ≤ reached P n m outs 0 = omega arith in h)) ∙ bytes-of-none
-
-  -- ---- the end is reached
-
-  module _ (sound : (at : ℕ) → at < length (P n m) → WellFormed (getD (P n m) at (Constant 0 0))) where
-    -- each call moves on by one order at least
-    pub end-or-on : (outs : List (List ℕ)) (at : ℕ) → Roomy outs → at ≤ length (P n m) → reached P n m outs at < length (P n m) → at + length outs ≤ reached P n m outs at
-    unfolding reached
-    end-or-on [] at roomy within short = omega arith
-    end-or-on (out ∷ outs) at roomy within short =
-        let next : ℕ = writeCounts P n m at (length out) .next in
-        let on : next ≤ reached P n m outs next = never-back outs next (roomy .1) (moves-within at out within (roomy .0)) in
-        let before-end : at < length (P n m) = omega (arith, moves at out within (roomy .0)) in
-        omega (
-          arith,
-          moves-on at out within (roomy .0) (Constant 0 0) before-end (sound at before-end),
-          end-or-on outs next (roomy .1) (moves-within at out within (roomy .0)) short,
-        )
-
-    -- as many calls as the plan has orders are enough
-    pub sent-in-time : (outs : List (List ℕ)) → Roomy outs → length (P n m) ≤ length outs → sent P n m outs 0 ≡ ordersBytes (P n m)
-    sent-in-time outs roomy enough = sent-until-end outs roomy (go (lt? (reached P n m outs 0) (length (P n m))))
-      where
-        go : {t : Bool} → Lt? (reached P n m outs 0) (length (P n m)) t → reached P n m outs 0 ≡ length (P n m)
-        go (less h) = absurd (let x : ⊥ = omega (arith, end-or-on outs 0 roomy (omega arith) h) in x)
-        go (more h) = omega (arith, reached-within outs 0 roomy (omega arith))
-
--- ---- the plan's bytes, and the runner
-
--- the runner accepts some bytes and runs the plan
+-- the runner accepts some bytes and runs the plan; what it leaves is a sheet
 pub record PlanRun (n m : ℕ) (sheet bytes : List ℕ) : Type 0 where
   pub accepted : runRefusal sheet bytes ≡ none
   pub leaves : runSheet sheet bytes ≡ runOf (plan n m) sheet
+  pub is-sheet : IsSheet (runSheet sheet bytes)
   pub count : runCount sheet bytes ≡ length (plan n m)
 
 module _ (n m : ℕ) (counts : countsRefusal n m ≡ none) where
-  sound : (at : ℕ) → at < length (plan n m) → WellFormed (getD (plan n m) at (Constant 0 0))
-  sound = let limits = counted n m counts in plan-well-formed n m (limits .bids) (limits .pools .least) (limits .pools .most)
+  all-well-formed : AllWellFormed (plan n m)
+  all-well-formed = let limits = counted n m counts in plan-orders n m (limits .bids) (limits .pools .most)
 
-  pub plan-sent : (outs : List (List ℕ)) → Roomy outs → length (plan n m) ≤ length outs → sent plan n m outs 0 ≡ ordersBytes (plan n m)
-  plan-sent = sent-in-time plan n m counts sound
+  well-formed : (at : ℕ) → at < length (plan n m) → WellFormed (getD (plan n m) at (Constant 0 0))
+  well-formed = let limits = counted n m counts in plan-well-formed n m (limits .bids) (limits .pools .least) (limits .pools .most)
 
-  pub plan-run : (outs : List (List ℕ)) → Roomy outs → length (plan n m) ≤ length outs → (sheet : List ℕ) → IsSheet sheet → PlanRun n m sheet (sent plan n m outs 0)
-  plan-run outs roomy enough sheet is =
-      let limits = counted n m counts in
-      let run = orders-bytes-run sheet (plan n m) is (plan-orders n m (limits .bids) (limits .pools .most)) in
-      subst (PlanRun n m sheet) (sym (plan-sent outs roomy enough)) (record { accepted = run .refusal; leaves = run .cells; count = run .count })
+  -- ---- one call
+
+  -- no more orders than the plan has from the position on
+  pub orders-within : (at room : ℕ) → at ≤ length (plan n m) → at + ordersWritten plan n m at room ≤ length (plan n m)
+  unfolding ordersWritten
+  orders-within at room within = omega (arith, fits-at-most (drop at (plan n m)) room, length-drop at (plan n m))
+
+  -- no more bytes than 8 for each order of the plan
+  pub bytes-within : (at room : ℕ) → length (bytesWritten plan n m at room) ≤ 8 * length (plan n m)
+  unfolding bytesWritten
+  bytes-within at room =
+      let k : ℕ = ordersWritten plan n m at room in
+      let rest : List Order = drop at (plan n m) in
+      omega (
+        arith,
+        bytes-at-most (plan n m) all-well-formed,
+        bytes-in-parts at (plan n m),
+        bytes-in-parts k rest,
+      )
+
+  module _ (at room : ℕ) (within : at ≤ length (plan n m)) (roomy : 8 ≤ room) where
+    pub call-accepted : writeRefusal plan n m at room ≡ none
+    unfolding writeRefusal
+    call-accepted = ap (λ (r : Refusal). first r (roomRefusal room)) (within-total plan n m at counts within) ∙ simp (le-ltb _ _ roomy)
+
+    gives-orders : writeCounts plan n m at room .orders ≡ ordersWritten plan n m at room
+    unfolding writtenCounts
+    gives-orders = ap (λ (w : plans.Written). w .orders) (counts-accepted plan n m at room call-accepted)
+
+    moves : writeCounts plan n m at room .next ≡ at + writeCounts plan n m at room .orders
+    unfolding writtenCounts
+    moves =
+        let e = counts-accepted plan n m at room call-accepted in
+        ap (λ (w : plans.Written). w .next) e ∙ ap (λ (w : plans.Written). at + w .orders) (sym e)
+
+    -- not past the end
+    pub moves-within : writeCounts plan n m at room .next ≤ length (plan n m)
+    moves-within = omega (arith, moves, gives-orders, orders-within at room within)
+
+    -- no orders are given only at the end
+    pub none-only-at-end : writeCounts plan n m at room .orders ≡ 0 → at ≡ length (plan n m)
+    unfolding ordersWritten
+    none-only-at-end e = go (lt? at (length (plan n m)))
+      where
+        go : {t : Bool} → Lt? at (length (plan n m)) t → at ≡ length (plan n m)
+        go (less h) =
+            let short = at-most-eight (getD (plan n m) at (Constant 0 0)) (well-formed at h) in
+            absurd (let x : ⊥ = omega (arith, gives-orders, some-fits (plan n m) at (Constant 0 0) room h short roomy) in x)
+        go (more h) = omega arith
+
+  module _ (at : ℕ) (out : List ℕ) (within : at ≤ length (plan n m)) (roomy : 8 ≤ length out) where
+    -- the bytes written are those given
+    gives : writerReply plan n m at out .bytes ≡ bytesWritten plan n m at (length out)
+    unfolding writtenCounts
+    gives =
+        let e = call-accepted at (length out) within roomy in
+        let bytes : List ℕ = bytesWritten plan n m at (length out) in
+        ap₂ take (ap (λ (w : plans.Written). w .bytes) (counts-accepted plan n m at (length out) e)) (slice-accepted plan n m at out e)
+        ∙ take-at bytes (drop (length bytes) out) (length bytes) refl
+
+    -- with those of the orders from the next position on, they are the bytes from this one on
+    gives-next : writerReply plan n m at out .bytes ++ ordersBytes (drop (writerReply plan n m at out .next) (plan n m)) ≡ ordersBytes (drop at (plan n m))
+    unfolding bytesWritten
+    gives-next =
+        let k : ℕ = ordersWritten plan n m at (length out) in
+        let next : writerReply plan n m at out .next ≡ at + k =
+        omega (arith, moves at (length out) within roomy, gives-orders at (length out) within roomy) in
+        ap₂ (λ (xs : List ℕ) (next : ℕ). xs ++ ordersBytes (drop next (plan n m))) gives next
+        ∙ ap (λ (os : List Order). ordersBytes (take k (drop at (plan n m))) ++ ordersBytes os) (sym (drop-drop k at (plan n m)))
+        ∙ sym (bytes-of-both (take k (drop at (plan n m))) (drop k (drop at (plan n m))))
+        ∙ ap ordersBytes (take-append-drop k (drop at (plan n m)))
+
+    -- the host goes on exactly if orders are given
+    goes-on : goesOn (writerReply plan n m at out) ≡ ltb 0 (writerReply plan n m at out .orders)
+    goes-on =
+        ap (λ (r : Refusal). goesOn (replyOf (numberOf r) (writeCounts plan n m at (length out)) (writeSlice plan n m at out)))
+        (call-accepted at (length out) within roomy)
+
+  -- ---- a call at the end
+
+  module _ (out : List ℕ) (roomy : 8 ≤ length out) where
+    abbrev end : ℕ
+    end = length (plan n m)
+
+    no-orders : ordersWritten plan n m end (length out) ≡ 0
+    unfolding ordersWritten
+    no-orders = ap (λ (os : List Order). fitting os (length out)) (drop-length (plan n m)) ∙ fits-none (length out)
+
+    no-bytes : bytesWritten plan n m end (length out) ≡ []
+    unfolding bytesWritten
+    no-bytes = ap (λ (k : ℕ). ordersBytes (take k (drop end (plan n m)))) no-orders ∙ bytes-of-none
+
+    -- it gives no bytes and no orders, and the position stays
+    pub nothing-left : writerReply plan n m (length (plan n m)) out ≡ record { refusal = 0; bytes = []; orders = 0; next = length (plan n m) }
+    nothing-left =
+        let within : end ≤ length (plan n m) = omega arith in
+        let bytes = gives end out within roomy ∙ no-bytes in
+        let orders = gives-orders end (length out) within roomy ∙ no-orders in
+        let next = moves end (length out) within roomy ∙ ap (λ (k : ℕ). end + k) orders ∙ add-zero end in
+        rw (call-accepted end (length out) within roomy, bytes, orders, next) refl
+
+    -- and the slice holds what it held
+    pub slice-left : writeSlice plan n m (length (plan n m)) out ≡ out
+    slice-left = slice-accepted plan n m end out (call-accepted end (length out) (omega arith) roomy) ∙ ap (λ (bytes : List ℕ). over bytes out) no-bytes
+
+  -- ---- the calls one after another
+
+  -- what holds of a walk from a position with k slices
+  record Walked (at k : ℕ) (w : Walk) : Type 0 where
+    within : w .position ≤ length (plan n m)
+    accepted : w .refusal ≡ 0
+    -- what was sent, and the bytes of the orders that are left
+    left : w .sent ++ ordersBytes (drop (w .position) (plan n m)) ≡ ordersBytes (drop at (plan n m))
+    ends : w .stopped ≡ true → w .position ≡ length (plan n m)
+    -- each call before the stop moves on by one order at least
+    on : w .stopped ≡ false → at + k ≤ w .position
+
+  -- one call, and a walk from the next position
+  after-call : (at : ℕ) (out : List ℕ) (k : ℕ) (later : Walk) → at ≤ length (plan n m) → 8 ≤ length out
+      → Walked (writerReply plan n m at out .next) k later → Walked at (suc k) (afterCall at (writerReply plan n m at out) (λ next. later))
+  after-call at out k later within roomy rest = go (goesOn (writerReply plan n m at out)) refl
+    where
+      go : (t : Bool) → goesOn (writerReply plan n m at out) ≡ t
+          → Walked at (suc k) (cond t (sentBefore (writerReply plan n m at out .bytes) later) (stopAt at (writerReply plan n m at out)))
+      go true e =
+          let reply : Reply = writerReply plan n m at out in
+          let some : 0 < reply .orders = ltb-true 0 (reply .orders) (sym (goes-on at out within roomy) ∙ e) in
+          record {
+            within = rest .within;
+            accepted = rest .accepted;
+            left =
+                append-assoc (reply .bytes) (later .sent) (ordersBytes (drop (later .position) (plan n m)))
+                ∙ ap (λ (xs : List ℕ). reply .bytes ++ xs) (rest .left)
+                ∙ gives-next at out within roomy;
+            ends = rest .ends;
+            on = λ f. omega (arith, rest .on f, moves at (length out) within roomy);
+          }
+      go false e =
+          let given : ℕ = writerReply plan n m at out .orders in
+          let few : given ≤ 0 = ltb-false 0 given (sym (goes-on at out within roomy) ∙ e) in
+          record {
+            within = within;
+            accepted = ap numberOf (call-accepted at (length out) within roomy);
+            left = refl;
+            ends = λ f. none-only-at-end at (length out) within roomy (omega arith);
+            on = λ f. absurd (true≢false f);
+          }
+
+  walked : (outs : List (List ℕ)) (at : ℕ) → Roomy outs → at ≤ length (plan n m) → Walked at (length outs) (walk (writerReply plan n m) outs at)
+  unfolding walk
+  walked [] at roomy within =
+      record { within = within; accepted = refl; left = refl; ends = λ e. absurd (true≢false (sym e)); on = λ e. omega arith }
+  walked (out ∷ outs) at roomy within =
+      let next : ℕ = writerReply plan n m at out .next in
+      after-call at out (length outs) (walk (writerReply plan n m) outs next) within (roomy .0)
+      (walked outs next (roomy .1) (moves-within at (length out) within (roomy .0)))
+
+  module _ (outs : List (List ℕ)) (roomy : Roomy outs) where
+    abbrev whole : Walk
+    whole = walk (writerReply plan n m) outs 0
+
+    all : Walked 0 (length outs) whole
+    all = walked outs 0 roomy (omega arith)
+
+    -- no call of the walk is refused
+    pub walk-accepted : walk (writerReply plan n m) outs 0 .refusal ≡ 0
+    walk-accepted = all .accepted
+
+    -- the walk stops at the end
+    pub stops-at-end : walk (writerReply plan n m) outs 0 .stopped ≡ true → walk (writerReply plan n m) outs 0 .position ≡ length (plan n m)
+    stops-at-end = all .ends
+
+    -- as many slices as the plan has orders are enough to come there
+    pub enough-slices : length (plan n m) ≤ length outs → walk (writerReply plan n m) outs 0 .position ≡ length (plan n m)
+    enough-slices enough = go (whole .stopped) refl
+      where
+        go : (t : Bool) → whole .stopped ≡ t → whole .position ≡ length (plan n m)
+        go true e = all .ends e
+        go false e = omega (arith, all .on e, all .within)
+
+    -- and with one more the walk has stopped
+    pub walk-stops : length (plan n m) < length outs → walk (writerReply plan n m) outs 0 .stopped ≡ true
+    walk-stops enough = go (whole .stopped) refl
+      where
+        go : (t : Bool) → whole .stopped ≡ t → whole .stopped ≡ true
+        go true e = e
+        go false e = absurd (let x : ⊥ = omega (arith, all .on e, all .within) in x)
+
+    -- ---- the plan's bytes, and the runner
+
+    module _ (end : walk (writerReply plan n m) outs 0 .position ≡ length (plan n m)) where
+      pub plan-sent : walk (writerReply plan n m) outs 0 .sent ≡ ordersBytes (plan n m)
+      plan-sent =
+          sym (append-nil (whole .sent))
+          ∙ ap (λ (xs : List ℕ). whole .sent ++ xs) (sym none-left)
+          ∙ all .left
+        where
+          none-left : ordersBytes (drop (whole .position) (plan n m)) ≡ []
+          none-left = ap (λ (at : ℕ). ordersBytes (drop at (plan n m))) end ∙ ap ordersBytes (drop-length (plan n m)) ∙ bytes-of-none
+
+      pub plan-run : (sheet : List ℕ) → IsSheet sheet → PlanRun n m sheet (walk (writerReply plan n m) outs 0 .sent)
+      plan-run sheet is =
+          let run = orders-bytes-run sheet (plan n m) is all-well-formed in
+          subst (PlanRun n m sheet) (sym plan-sent)
+          (record { accepted = run .refusal; leaves = run .cells; is-sheet = run-leaves-sheet sheet _ (run .refusal); count = run .count })

@@ -7,7 +7,7 @@ use Rattle.definitions.specs.Calls.{countsRefusal, lengthRefusal}
 use Rattle.definitions.specs.Plan.{positionRefusal, roomRefusal, askRefusal, writeRefusal, bytesRefusal}
 use Rattle.laws.specs.Search.{first-to-refuse, let-through}
 use Rattle.plan.specs.Plan.{plan}
-use Rattle.host.proofs.Calls.{first-grouped, passed-between}
+use Rattle.host.specs.Calls.{first-grouped, passed-between}
 use Rattle.host.proofs.judge_bytes.Statement.{statement}
 use Rattle.host.proofs.judge_bytes.Tie as tie
 

@@ -7,7 +7,7 @@ use Rattle.definitions.specs.Plan.{bytesRefusal, countBytes}
 use Rattle.laws.specs.Search.{turned-away, let-through}
 use Rattle.plan.specs.Plan.{plan}
 use Rattle.writer.specs.Calls.{counts-accepted, slice-accepted}
-use Rattle.host.proofs.Calls.{bytes-length, bytes-writing, bytes-given, bytes-kept, counts-given, counts-kept}
+use Rattle.host.specs.Calls.{bytes-length, bytes-writing, bytes-given, bytes-kept, counts-given, counts-kept}
 use Rattle.host.proofs.plan_bytes.Statement.{statement}
 use Rattle.host.proofs.plan_bytes.Tie as tie
 

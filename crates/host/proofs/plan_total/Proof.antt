@@ -9,7 +9,7 @@ use Rattle.laws.specs.Search.{turned-away, let-through}
 use Rattle.plan.specs.Plan.{plan}
 use Rattle.plan.specs.Asking.{total-accepted}
 use Rattle.host.proofs.Numbers.{one-number}
-use Rattle.host.proofs.Calls.{total-counts, total-length, total-given, total-kept}
+use Rattle.host.specs.Calls.{total-counts, total-length, total-given, total-kept}
 use Rattle.host.proofs.plan_total.Statement.{statement}
 use Rattle.host.proofs.plan_total.Tie as tie
 

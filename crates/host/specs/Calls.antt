@@ -1,11 +1,11 @@
--- What is known of a call that is not refused, and what each call leaves.
-use Prim.Native.Nat.{ℕ}
+-- When a call is not refused (`total-passes`, `bytes-pass`), what is then known of it, and what each call leaves.
+use Prim.Native.Nat.{ℕ, _≤_}
 use mathlib.Core.Path.{_≡_, refl, ap, _∙_}
 use mathlib.Core.Bool.{false}
 use mathlib.Core.List.{List}
 use lib.Dec.{eqb}
 use lib.ListN.{length}
-use borrow.Author.Tests.{eqb-true}
+use borrow.Author.Tests.{eqb-true, eq-eqb, le-ltb}
 use Rattle.definitions.specs.Answers.{Refusal, none, refuse, first, unless, isNone}
 use Rattle.definitions.specs.Calls.{countsRefusal, lengthRefusal}
 use Rattle.definitions.specs.Plan.{Plan, positionRefusal, roomRefusal, askRefusal, writeRefusal, over, bytesWritten, writtenCounts, lowestFirst, countBytes, totalRefusal, totalSlice, bytesRefusal, bytesSlice, countsSlice}
@@ -28,6 +28,10 @@ stated-length a b e = eqb-true a b (test-passed (eqb a b) 3 0 e)
 
 -- ---- the total
 
+pub total-passes : (n m out : ℕ) → countsRefusal n m ≡ none → out ≡ 8 → totalRefusal n m out ≡ none
+unfolding totalRefusal
+total-passes n m out counts stated = rw (counts, eq-eqb out 8 stated) refl
+
 module _ (P : Plan) (n m : ℕ) (out : List ℕ) where
   pub total-counts : totalRefusal n m (length out) ≡ none → countsRefusal n m ≡ none
   unfolding totalRefusal
@@ -46,6 +50,10 @@ module _ (P : Plan) (n m : ℕ) (out : List ℕ) where
   total-kept e = unless-refused (totalRefusal n m (length out)) (lowestFirst 8 (length (P n m))) out e
 
 -- ---- the bytes
+
+pub bytes-pass : (P : Plan) (n m at room out : ℕ) → countsRefusal n m ≡ none → out ≡ 24 → at ≤ length (P n m) → 8 ≤ room → bytesRefusal P n m at room out ≡ none
+unfolding bytesRefusal
+bytes-pass P n m at room out counts stated within roomy = rw (counts, eq-eqb out 24 stated, le-ltb (length (P n m)) at within, le-ltb room 8 roomy) refl
 
 module _ (P : Plan) (n m at : ℕ) (bytes out : List ℕ) where
   pub bytes-length : bytesRefusal P n m at (length bytes) (length out) ≡ none → length out ≡ 24
