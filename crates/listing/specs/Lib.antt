@@ -3,6 +3,7 @@ pub mod Digits
 pub mod Lines
 pub mod Negative
 pub mod Put
+pub mod ReadBack
 pub mod Room
 pub mod Text
 pub mod Written

@@ -7,7 +7,8 @@ use lib.ListN.{length, length-append}
 use lib.IntN.{ℤ, pos}
 use lib.Signed.{ltZ}
 use Rattle.definitions.specs.Limits.{bidLimit, poolLimit}
-use Rattle.definitions.specs.Settle.{decimal, decimalZ, newline, noneWord, bidLine, flowLine, priceText, priceLine, welfareLine, linesTo, bidLines, flowLines, priceLines, listing, refusedText}
+use Rattle.definitions.specs.Arithmetic.{joinTo}
+use Rattle.definitions.specs.Settle.{decimal, decimalZ, newline, noneWord, bidLine, flowLine, priceText, priceLine, welfareLine, bidLines, flowLines, priceLines, listing, refusedText}
 use Rattle.listing.specs.Digits.{decimal-length, signed-length, two-digits}
 use Rattle.listing.specs.Lines.{lastField, bidAt, flowAt, priceAt, rowLines}
 use Rattle.listing.specs.Text.{textRoom}
@@ -61,11 +62,11 @@ welfare-length w = omega (arith, last-length w)
 
 -- ---- all lines
 
-lines-length : (k most : ℕ) (line : ℕ → List ℕ) → ((i : ℕ) → i < k → length (line i) ≤ most) → length (linesTo k line) ≤ k * most
-unfolding linesTo
+lines-length : (k most : ℕ) (line : ℕ → List ℕ) → ((i : ℕ) → i < k → length (line i) ≤ most) → length (joinTo k line) ≤ k * most
+unfolding joinTo
 lines-length zero most line h = omega arith
 lines-length (suc k) most line h =
-    omega (arith, length-append (linesTo k line) (line k), lines-length k most line (λ i l. h i (omega arith)), h k (omega arith))
+    omega (arith, length-append (joinTo k line) (line k), lines-length k most line (λ i l. h i (omega arith)), h k (omega arith))
 
 bids-length : (n : ℕ) (results : List ℤ) → n ≤ bidLimit → length (bidLines n results) ≤ n * 29
 unfolding bidLines

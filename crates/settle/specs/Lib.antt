@@ -1,2 +1,4 @@
 -- What settle reads and what it is to print.
+pub mod Turns
+pub mod Parts
 pub mod Whole

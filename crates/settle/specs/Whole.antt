@@ -1,99 +1,120 @@
--- The whole text that settle reads, piece by piece, and the bytes that it is to print for it.
-use Prim.Native.Nat.{ℕ, _≤_}
-use mathlib.Core.Path.{_≡_, refl, ap, _∙_}
-use mathlib.Core.List.{List, [], _∷_, _++_}
+-- Turn by turn settle reads the text that the reads give (`turn-onward`, `turn-over`, `turns-over`), and prints what is to be printed for it (`prints-whole`).
+use Prim.Native.Nat.{ℕ, zero, suc}
+use mathlib.Core.Path.{_≡_, sym, ap, _∙_}
+use mathlib.Core.Logic.{inl, inr}
+use mathlib.Core.List.{List, []}
+use native.Mathlib.Omega.{arith}
 use lib.ListN.{length, take}
-use lib.IntN.{ℤ}
-use Rattle.definitions.specs.Limits.{cellCount}
-use Rattle.definitions.specs.Settle.{inputText, settleText}
+use lib.IntN.{ℤ, pos, negsuc}
+use Rattle.definitions.specs.Answers.{Refusal, numberOf, placeOf}
+use Rattle.definitions.specs.Settle as settle
+use Rattle.definitions.specs.Settle.{inputText, settleText, settleInput, refusedText}
 use Rattle.plan.specs.Plan.{plan}
 use Rattle.text.specs.declared.Input.{Input}
 use Rattle.text.specs.declared.Reader.{Reader}
-use Rattle.text.specs.Reading.{Reading, reading, startReader, numberLimit, wordEnded, fed, answerOf, inputFor}
+use Rattle.text.specs.Reading.{Reading, reading, startReader, numberLimit, fed, inputFor}
 use Rattle.text.specs.Steps.{fed-append}
-use Rattle.text.specs.Texts.{finished, reads}
-use Rattle.listing.specs.Text.{textRoom}
-use Rattle.settlement.specs.Settled.{settledSize, settledSlice}
-use Rattle.settlement.specs.Settles.{settled-first}
+use Rattle.text.specs.Texts.{reads}
+use Rattle.text.specs.Broken.{TurnedAway}
+use Rattle.settle.specs.declared.Turn.the-variants.{More, Over}
+use Rattle.settle.specs.Turns.{leftBy, brokenOff, turned, ReadAnswer, textBefore, textOf, turnLimit, ReadWhole, NothingCleared, PrintsWhole}
+use Rattle.settle.specs.Parts.{part-turned-away}
 
 -- ---- Reading
 
--- the reader and the numbers stored are those of a text read from its start, with `before` stored at first
-pub record SoFar (before : List ℤ) (reader : Reader) (numbers : List ℤ) : Type 0 where
-  pub text : List ℕ
-  pub same : reading reader numbers ≡ fed (reading startReader before) text
+-- however the reads go on with so many turns left, there are reads from the start that lead to the same
+pub record Led (before : List ℤ) (s : Reading) (turns : ℕ) (rest : ℕ → ReadAnswer) : Type 0 where
+  pub reads : ℕ → ReadAnswer
+  pub same : fed (reading startReader before) (textOf turnLimit reads) ≡ fed s (textOf turns rest)
 
--- what is fed where a read fails: the byte of a question mark, which no text may have
-abbrev pub failedRead : List ℕ
-failedRead = 63 ∷ []
+abbrev pub SoFar : (before : List ℤ) (reader : Reader) (numbers : List ℤ) (turns : ℕ) → Type 0
+SoFar before reader numbers turns = (rest : ℕ → ReadAnswer) → Led before (reading reader numbers) turns rest
 
--- no piece yet
-pub nothing-read : (before : List ℤ) (reader : Reader) → reader ≡ startReader → SoFar before reader before
-unfolding fed
-nothing-read before reader e = record { text = []; same = ap (λ (r : Reader). reading r before) e }
+-- no turn yet
+pub no-turn : (before : List ℤ) (reader : Reader) → reader ≡ startReader → SoFar before reader before turnLimit
+no-turn before reader e rest = record { reads = rest; same = ap (λ (r : Reader). fed (reading r before) (textOf turnLimit rest)) (sym e) }
 
--- one piece more
-pub piece-read : (before : List ℤ) (reader next : Reader) (numbers stored : List ℤ) (piece : List ℕ) → SoFar before reader numbers
-    → next ≡ fed (reading reader numbers) piece .reader → stored ≡ fed (reading reader numbers) piece .numbers → SoFar before next stored
-piece-read before reader next numbers stored piece s e f =
+-- a read, then others
+abbrev pub readFirst : ReadAnswer → (ℕ → ReadAnswer) → (ℕ → ReadAnswer)
+readFirst r rest zero = r
+readFirst r rest (suc i) = rest i
+
+-- a turn that leads on
+more-fed : (s : Reading) (got : ℤ) (piece : List ℕ) (next : Reader) (stored : List ℤ) (rest : List ℕ) → turned s got piece .turn ≡ More next
+    → stored ≡ turned s got piece .numbers → fed s (textBefore got piece rest) ≡ fed (reading next stored) rest
+unfolding turned
+more-fed s (negsuc k) piece next stored rest e f = let z : _≡_ {A = ℕ} 0 1 = cc in absurd (omega arith)
+more-fed s (pos zero) piece next stored rest e f = let z : _≡_ {A = ℕ} 0 1 = cc in absurd (omega arith)
+more-fed s (pos (suc k)) piece next stored rest e f =
+    let q : next ≡ fed s (take (suc k) piece) .reader = cc in
+    rw (q, f) (sym (fed-append (take (suc k) piece) rest s))
+
+pub turn-onward : (before : List ℤ) (reader next : Reader) (numbers stored : List ℤ) (turns left : ℕ) (got : ℤ) (piece : List ℕ) → SoFar before reader numbers turns
+    → turns ≡ suc left → turned (reading reader numbers) got piece .turn ≡ More next → stored ≡ turned (reading reader numbers) got piece .numbers
+    → SoFar before next stored left
+unfolding textOf
+turn-onward before reader next numbers stored turns left got piece s t e f rest =
+    let r : ReadAnswer = record { got = got; piece = piece } in
+    let led = s (readFirst r rest) in
     record {
-      text = s .text ++ piece;
+      reads = led .reads;
       same =
-          rw (e, f) refl
-          ∙ ap (λ (r : Reading). fed r piece) (s .same)
-          ∙ fed-append (s .text) piece (reading startReader before);
+          led .same
+          ∙ ap (λ (k : ℕ). fed (reading reader numbers) (textOf k (readFirst r rest))) t
+          ∙ more-fed (reading reader numbers) got piece next stored (textOf left rest) e f;
     }
 
--- what the whole text leaves: the answer, and the numbers stored
-pub record Leaves (before : List ℤ) (text : List ℕ) (input : Input) (numbers : List ℤ) : Type 0 where
-  pub answered : input ≡ answerOf (wordEnded (fed (reading startReader before) text) .reader .stage)
-  pub stored : numbers ≡ wordEnded (fed (reading startReader before) text) .numbers
+-- a turn that ends the text
+over-left : (s : Reading) (got : ℤ) (piece : List ℕ) (input : Input) (stored : List ℤ) (rest : List ℕ) → turned s got piece .turn ≡ Over input
+    → stored ≡ turned s got piece .numbers
+    → (input ≡ leftBy (fed s (textBefore got piece rest)) .input) × (stored ≡ leftBy (fed s (textBefore got piece rest)) .numbers)
+unfolding fed turned
+over-left s (negsuc k) piece input stored rest e f = (cc, f)
+over-left s (pos zero) piece input stored rest e f = (cc, f)
+over-left s (pos (suc k)) piece input stored rest e f = let z : _≡_ {A = ℕ} 0 1 = cc in absurd (omega arith)
 
--- the same of some text: no contract can say which bytes a read gives
-pub record ReadWhole (before : List ℤ) (input : Input) (numbers : List ℤ) : Type 0 where
-  pub text : List ℕ
-  pub leaves : Leaves before text input numbers
-
--- no piece more
-pub text-ended : (before : List ℤ) (reader : Reader) (input : Input) (numbers stored : List ℤ) → SoFar before reader numbers
-    → input ≡ answerOf (wordEnded (reading reader numbers) .reader .stage) → stored ≡ wordEnded (reading reader numbers) .numbers
+-- what the text leaves is what it leaves from the start
+text-over : (before : List ℤ) (reader : Reader) (numbers : List ℤ) (turns : ℕ) (rest : ℕ → ReadAnswer) (input : Input) (stored : List ℤ) → SoFar before reader numbers turns
+    → (input ≡ leftBy (fed (reading reader numbers) (textOf turns rest)) .input) × (stored ≡ leftBy (fed (reading reader numbers) (textOf turns rest)) .numbers)
     → ReadWhole before input stored
-text-ended before reader input numbers stored s e f =
+text-over before reader numbers turns rest input stored s e =
+    let led = s rest in
     record {
-      text = s .text;
-      leaves =
-          record {
-            answered = e ∙ ap (λ (r : Reading). answerOf (wordEnded r .reader .stage)) (s .same);
-            stored = f ∙ ap (λ (r : Reading). wordEnded r .numbers) (s .same);
-          };
+      reads = led .reads;
+      answered = e .0 ∙ ap (λ (r : Reading). leftBy r .input) (sym (led .same));
+      stored = e .1 ∙ ap (λ (r : Reading). leftBy r .numbers) (sym (led .same));
     }
+
+pub turn-over : (before : List ℤ) (reader : Reader) (numbers stored : List ℤ) (turns left : ℕ) (got : ℤ) (piece : List ℕ) (input : Input) → SoFar before reader numbers turns
+    → turns ≡ suc left → turned (reading reader numbers) got piece .turn ≡ Over input → stored ≡ turned (reading reader numbers) got piece .numbers
+    → ReadWhole before input stored
+unfolding textOf
+turn-over before reader numbers stored turns left got piece input s t e f =
+    let r : ReadAnswer = record { got = got; piece = piece } in
+    text-over before reader numbers turns (λ i. r) input stored s
+    (rw t (over-left (reading reader numbers) got piece input stored (textOf left (λ i. r)) e f))
+
+-- no turn is left
+pub turns-over : (before : List ℤ) (reader : Reader) (numbers stored : List ℤ) (turns : ℕ) (input : Input) → SoFar before reader numbers turns
+    → turns ≡ 0 → input ≡ brokenOff (reading reader numbers) .input → stored ≡ brokenOff (reading reader numbers) .numbers
+    → ReadWhole before input stored
+unfolding textOf
+turns-over before reader numbers stored turns input s t e f =
+    text-over before reader numbers turns (λ i. record { got = pos 0; piece = [] }) input stored s (rw t (e, f))
 
 -- ---- Printing
 
--- the first r bytes of out are what document 01 has printed for the text, for every text that leaves this answer and these numbers
-abbrev pub Prints : Input → List ℤ → (r : ℕ) → List ℕ → Type 0
-Prints input numbers r out = (before : List ℤ) (text : List ℕ) → length before ≡ numberLimit → Leaves before text input numbers → take r out ≡ settleText plan text
+-- an input that is turned away is not cleared
+nothing-cleared : (printed : List ℕ) (input : settle.Input) → printed ≡ inputText plan input → TurnedAway input → NothingCleared printed
+unfolding inputText
+nothing-cleared printed settle.unreadable e t = inl e
+nothing-cleared printed (settle.refused r) e (inl q) = inr (inl (e ∙ ap (λ (s : Refusal). refusedText (numberOf s) (placeOf s)) q))
+nothing-cleared printed (settle.refused r) e (inr q) = inr (inr (e ∙ ap (λ (s : Refusal). refusedText (numberOf s) (placeOf s)) q))
 
--- what such a text is
-input-read : (before : List ℤ) (text : List ℕ) (input : Input) (numbers : List ℤ) → Leaves before text input numbers → inputFor input numbers ≡ finished (fed (reading startReader before) text)
-unfolding finished
-input-read before text input numbers l = rw (l .answered, l .stored) refl
-
--- by what `settle` ensures, given 4,096 cells and room enough
-pub prints : (input : Input) (numbers : List ℤ) (cells r : ℕ) (out after : List ℕ) → cells ≡ cellCount → textRoom ≤ length out
-    → r ≡ settledSize plan (inputFor input numbers) cells (length out) → after ≡ settledSlice plan (inputFor input numbers) cells out
-    → Prints input numbers r after
+pub prints-whole : (before : List ℤ) (input : Input) (numbers : List ℤ) (printed : List ℕ) → length before ≡ numberLimit
+    → ReadWhole before input numbers → printed ≡ inputText plan (inputFor input numbers) → PrintsWhole printed
 unfolding settleText
-prints input numbers cells r out after e h size bytes before text long l =
-    rw (size, bytes)
-    (settled-first plan (inputFor input numbers) cells out e h ∙ ap (inputText plan) (input-read before text input numbers l ∙ reads before text long))
-
--- the same of some text
-pub record PrintsWhole (r : ℕ) (out : List ℕ) : Type 0 where
-  pub text : List ℕ
-  pub printed : take r out ≡ settleText plan text
-
--- the text that was read
-pub prints-whole : (before : List ℤ) (input : Input) (numbers : List ℤ) (r : ℕ) (out : List ℕ) → length before ≡ numberLimit
-    → ReadWhole before input numbers → Prints input numbers r out → PrintsWhole r out
-prints-whole before input numbers r out long s p = record { text = s .text; printed = p before (s .text) long (s .leaves) }
+prints-whole before input numbers printed long w p =
+    let text = textOf turnLimit (w .reads) in
+    let whole : printed ≡ inputText plan (settleInput text) = p ∙ rw (w .answered, w .stored) (ap (inputText plan) (reads before text long)) in
+    record { reads = w .reads; whole = whole; part = λ e. nothing-cleared printed (settleInput text) whole (part-turned-away turnLimit (w .reads) e) }

@@ -1,12 +1,13 @@
 // Settle: reads a book's text from standard input and prints its clearing, or why there is none.
-// No contract can say which bytes a read gives. So `read_text` promises the answer to some text, and `feed_piece` that a turn feeds just the
-// bytes that its read has left; for each text that leaves an answer, `list_text` promises the very bytes that are to be printed.
+// No contract can say which bytes a read gives. So `take_turn` says what each answer of a read makes of the text so far, `read_text` that its answer
+// is that of the text that some reads give, and `list_text` which bytes are to be printed for an answer.
 ghost use mathlib.Core.Path.{_≡_};
-ghost use lib.ListN.{length, take};
-ghost use Rattle.io.specs.Counts.{clamped};
-ghost use Rattle.settlement.specs.Settled.{Counts};
-ghost use Rattle.text.specs.Reading.{reading, fed};
-ghost use Rattle.settle.specs.Whole.{failedRead, ReadWhole, Prints, PrintsWhole};
+ghost use lib.ListN.{take};
+ghost use Rattle.definitions.specs.Settle.{inputText};
+ghost use Rattle.io.specs.Counts.{Counts};
+ghost use Rattle.plan.specs.Plan.{plan};
+ghost use Rattle.text.specs.Reading.{reading, inputFor};
+ghost use Rattle.settle.specs.Turns.{turned, ReadWhole, PrintsWhole};
 use definitions::Limits;
 use libc::STDIN_FILENO;
 use libc::STDOUT_FILENO;
@@ -15,31 +16,30 @@ use settlement::settle;
 use text::Input;
 use text::Reader;
 
-// Feeds the reader the bytes that a read has put at the start of piece; `got` is what it answered.
-fn feed_piece(
-    reader: Reader,
-    got: isize,
-    piece: &[u8],
-    numbers: &mut [i32; Reader::NUMBERS],
-) -> Reader
-    ensures { λ r. ⌜ r ≡ fed (reading reader (now (numbers .entry))) (take (clamped got (length (now (piece .entry)))) (now (piece .entry))) .reader ⌝ }
-    ensures { λ _. ⌜ now (numbers .exit) ≡ fed (reading reader (now (numbers .entry))) (take (clamped got (length (now (piece .entry)))) (now (piece .entry))) .numbers ⌝ }
+// What a read leads to: more of the text is to be read, or the text is over.
+enum Turn {
+    More(Reader),
+    Over(Input),
+}
+
+// One turn: `got` is what a read answered, and its bytes stand at the start of piece. Below 0 it failed, and 0 is the end of the input.
+fn take_turn(reader: Reader, got: isize, piece: &[u8], numbers: &mut [i32; Reader::NUMBERS]) -> Turn
+    ensures { λ r. ⌜ r ≡ turned (reading reader (now (numbers .entry))) got (now (piece .entry)) .turn ⌝ }
+    ensures { λ _. ⌜ now (numbers .exit) ≡ turned (reading reader (now (numbers .entry))) got (now (piece .entry)) .numbers ⌝ }
 {
+    if got < 0 {
+        return Turn::Over(reader.break_off(numbers));
+    }
+    if got == 0 {
+        return Turn::Over(reader.finish(numbers));
+    }
     let size = io::count(got, piece);
-    reader.feed(&piece[..size], numbers)
+    Turn::More(reader.feed(&piece[..size], numbers))
 }
 
-// A read that fails leaves a text of which only a part is known, and that part may be a whole book. So a byte that no text may have is fed:
-// the text is then unreadable, unless its counts were refused before.
-fn feed_failure(reader: Reader, numbers: &mut [i32; Reader::NUMBERS]) -> Reader
-    ensures { λ r. ⌜ r ≡ fed (reading reader (now (numbers .entry))) failedRead .reader ⌝ }
-    ensures { λ _. ⌜ now (numbers .exit) ≡ fed (reading reader (now (numbers .entry))) failedRead .numbers ⌝ }
-{
-    reader.feed(b"?", numbers)
-}
-
-// Feeds the reader piece by piece until the input ends or a read fails.
-// A proved loop has to end, and nothing says that an input does. So the loop counts its turns down, from a number that no run uses up.
+// Reads turn by turn until the text is over.
+// A proved loop has to end, and nothing says that an input does. So the loop counts its turns down, from a number that no run uses up;
+// a text that went on longer would be broken off there.
 fn read_text(numbers: &mut [i32; Reader::NUMBERS]) -> Input
     ensures { λ r. ⌜ ReadWhole (now (numbers .entry)) r (now (numbers .exit)) ⌝ }
 {
@@ -48,22 +48,18 @@ fn read_text(numbers: &mut [i32; Reader::NUMBERS]) -> Input
     while turns > 0 {
         let mut piece = io::buffer();
         let got = libc::read(STDIN_FILENO, &mut piece);
-        if got < 0 {
-            let failed = feed_failure(reader, numbers);
-            return failed.finish(numbers);
+        match take_turn(reader, got, &piece, numbers) {
+            Turn::More(next) => reader = next,
+            Turn::Over(input) => return input,
         }
-        if got == 0 {
-            break;
-        }
-        reader = feed_piece(reader, got, &piece, numbers);
         turns -= 1;
     }
-    reader.finish(numbers)
+    reader.break_off(numbers)
 }
 
 // Writes what is to be printed for the text that was read at the start of out, and gives its size.
 fn list_text(input: Input, numbers: &[i32; Reader::NUMBERS], out: &mut [u8; Listing::ROOM]) -> usize
-    ensures text { λ r. ⌜ Prints input (now (numbers .entry)) r (now (out .exit)) ⌝ }
+    ensures text { λ r. ⌜ take r (now (out .exit)) ≡ inputText plan (inputFor input (now (numbers .entry))) ⌝ }
     ensures counted { λ r. ⌜ Counts r (now (out .exit)) ⌝ }
 {
     let mut sheet = [0u32; Limits::CELLS];
@@ -72,7 +68,7 @@ fn list_text(input: Input, numbers: &[i32; Reader::NUMBERS], out: &mut [u8; List
 
 // Both: reads the text and writes what is to be printed for it.
 fn settled(out: &mut [u8; Listing::ROOM]) -> usize
-    ensures text { λ r. ⌜ PrintsWhole r (now (out .exit)) ⌝ }
+    ensures text { λ r. ⌜ PrintsWhole (take r (now (out .exit))) ⌝ }
     ensures counted { λ r. ⌜ Counts r (now (out .exit)) ⌝ }
 {
     let mut numbers = [0i32; Reader::NUMBERS];

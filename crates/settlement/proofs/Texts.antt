@@ -1,11 +1,12 @@
--- The text of a refused book, and what an accepted one leaves.
-use Prim.Native.Nat.{ℕ}
+-- What too little room leaves, the text of a refused book, and what an accepted one leaves.
+use Prim.Native.Nat.{ℕ, _≤_, _<_}
 use mathlib.Core.Path.{_≡_, refl, sym, ap, ap₂, _∙_}
-use mathlib.Core.Bool.{false, true≢false}
+use mathlib.Core.Bool.{Bool, true, false, cond, true≢false}
 use mathlib.Core.List.{List}
 use lib.Dec.{leb}
-use lib.ListN.{length}
+use lib.ListN.{length, take}
 use lib.IntN.{ℤ}
+use borrow.Author.Tests.{le-leb, lt-leb}
 use Rattle.definitions.specs.Limits.{cellCount}
 use Rattle.definitions.specs.Book.{Book}
 use Rattle.definitions.specs.Sheet.{resultCount}
@@ -19,7 +20,7 @@ use Rattle.laws.specs.Sizes.{accepted-sizes}
 use Rattle.listing.specs.Text.{textRoom, textSize, textSlice, refusedSize, refusedSlice}
 use Rattle.plan.specs.Plan.{plan}
 use Rattle.settlement.specs.Opens.{plan-opens}
-use Rattle.settlement.specs.Settled.{Counts, settledText, settledSize, settledSlice}
+use Rattle.settlement.specs.Settled.{settledText, settledSize, settledSlice, settledSheet}
 use Rattle.settlement.specs.Settles.{settled-counts}
 
 -- ---- One text, written as it is defined
@@ -41,6 +42,14 @@ module _ (i : Input) (a : ℕ) (j : Input) (b : ℕ) (out : List ℕ) (same : se
   pub same-slice : settledSlice plan i a out ≡ settledSlice plan j b out
   unfolding settledSlice
   same-slice = ap (λ (l : List ℕ). textSlice (leb textRoom (length out)) l out) same
+
+-- ---- Too little room
+
+module _ (B : Book) (cells : ℕ) (sheet out : List ℕ) (short : length out < textRoom) where
+  pub no-room : (0 ≡ settledSize plan (readable B) cells (length out))
+      × ((sheet ≡ settledSheet plan (readable B) (length out) sheet) × (out ≡ settledSlice plan (readable B) cells out))
+  unfolding settledSize settledSlice
+  no-room = rw (lt-leb textRoom (length out) short) (refl, (refl, refl))
 
 -- ---- A refusal
 
@@ -66,9 +75,18 @@ pub refused-text : (B : Book) (r : Refusal) (cells any : ℕ) → r ≡ sealRefu
 refused-text B r cells any e refuses =
     ap (λ (q : Refusal). refusedText (numberOf q) (placeOf q)) e ∙ sym (book-refused plan B (sealRefusal B cells) refuses)
 
-pub sheet-kept : (B : Book) (sheet : List ℕ) → isNone (sealRefusal B (length sheet)) ≡ false → sheet ≡ clearSheet plan B sheet
+-- a refused book leaves the sheet, whatever room there is
+pub sheet-kept : (B : Book) (room : ℕ) (sheet : List ℕ) → isNone (sealRefusal B (length sheet)) ≡ false → sheet ≡ settledSheet plan (readable B) room sheet
 unfolding clearSheet
-sheet-kept B sheet refuses = sym (unless-refused (sealRefusal B (length sheet)) (planRun plan B) sheet refuses)
+sheet-kept B room sheet refuses = go (leb textRoom room)
+  where
+    go : (t : Bool) → sheet ≡ cond t (clearSheet plan B sheet) sheet
+    go true = sym (unless-refused (sealRefusal B (length sheet)) (planRun plan B) sheet refuses)
+    go false = refl
+
+-- with room, the sheet is the one that clearing leaves
+pub sheet-cleared : (B : Book) (room : ℕ) (sheet left : List ℕ) → textRoom ≤ room → left ≡ clearSheet plan B sheet → left ≡ settledSheet plan (readable B) room sheet
+sheet-cleared B room sheet left roomy cleared = rw (le-leb textRoom room roomy) cleared
 
 -- refused counts refuse the book
 pub counts-refuse : (B : Book) (cells : ℕ) → isNone (countsRefusal (B .n) (B .m)) ≡ false → countsRefusal (B .n) (B .m) ≡ sealRefusal B cells
@@ -99,5 +117,6 @@ module _ (B : Book) (sheet left : List ℕ) (accepted : sealRefusal B (length sh
 
 pub counted : {C : Type 0} {r : ℕ} {after : List ℕ} (input : Input) (cells : ℕ) (out : List ℕ)
     → (r ≡ settledSize plan input cells (length out)) × (C × (after ≡ settledSlice plan input cells out))
-    → (r ≡ settledSize plan input cells (length out)) × (C × ((after ≡ settledSlice plan input cells out) × Counts r after))
+    → (r ≡ settledSize plan input cells (length out))
+    × (C × ((after ≡ settledSlice plan input cells out) × ((r ≤ length after) × (r ≡ length (take r after)))))
 counted {r = r} {after = after} input cells out h = (h .0, (h .1 .0, (h .1 .1, settled-counts plan input cells r out after (h .0) (h .1 .1))))

@@ -2,3 +2,4 @@
 pub mod Opens
 pub mod Settled
 pub mod Settles
+pub mod Printed

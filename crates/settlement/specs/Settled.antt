@@ -1,17 +1,18 @@
 -- What settling gives and leaves for every input: the text at the start of the slice lent for it, and the sheet that clearing leaves.
 use Prim.Native.Nat.{ℕ, _*_, _≤_}
 use mathlib.Core.Path.{_≡_}
+use mathlib.Core.Bool.{cond}
 use mathlib.Core.List.{List}
 use lib.Dec.{leb}
 use lib.ListN.{length, take, drop}
 use lib.IntN.{ℤ}
-use Rattle.definitions.specs.Limits.{bidNumbers}
+use Rattle.definitions.specs.Limits.{bidNumbers, cellCount}
 use Rattle.definitions.specs.Book.{book}
 use Rattle.definitions.specs.Answers.{numberOf, placeOf}
 use Rattle.definitions.specs.Calls.{sealRefusal}
-use Rattle.definitions.specs.Plan.{Plan}
+use Rattle.definitions.specs.Plan.{Plan, over}
 use Rattle.definitions.specs.Outcome.{clearSheet}
-use Rattle.definitions.specs.Settle.{Input, unreadable, refused, readable, unreadableText, refusedText, bookText}
+use Rattle.definitions.specs.Settle.{Input, unreadable, refused, readable, unreadableText, refusedText, bookText, settleText}
 use Rattle.listing.specs.Text.{textRoom, textSize, textSlice}
 
 -- the tables of a ready text: first the numbers of the bids, then those of the capacities
@@ -32,12 +33,13 @@ settledSize plan input cells room = textSize (leb textRoom room) (settledText pl
 unfoldable pub settledSlice : Plan → Input → (cells : ℕ) → List ℕ → List ℕ
 settledSlice plan input cells out = textSlice (leb textRoom (length out)) (settledText plan input cells) out
 
--- only a book is cleared, and a refused one leaves the sheet as it was
-abbrev pub settledSheet : Plan → Input → List ℕ → List ℕ
-settledSheet plan unreadable sheet = sheet
-settledSheet plan (refused r) sheet = sheet
-settledSheet plan (readable B) sheet = clearSheet plan B sheet
+-- only a book is cleared, and only with room for its listing; a refused one leaves the sheet as it was
+abbrev pub settledSheet : Plan → Input → (room : ℕ) → List ℕ → List ℕ
+settledSheet plan unreadable room sheet = sheet
+settledSheet plan (refused r) room sheet = sheet
+settledSheet plan (readable B) room sheet = cond (leb textRoom room) (clearSheet plan B sheet) sheet
 
--- r counts bytes at the start of out. The second part follows from the first; with both a caller's `&out[..r]` needs no proof.
-abbrev pub Counts : ℕ → List ℕ → Type 0
-Counts r out = (r ≤ length out) × (r ≡ length (take r out))
+-- with 4,096 cells and room for it, what document 01 has printed for the text lies over the slice, and r is its size
+abbrev pub Prints : Plan → (text : List ℕ) (cells : ℕ) (out : List ℕ) (r : ℕ) (after : List ℕ) → Type 0
+Prints plan text cells out r after =
+    cells ≡ cellCount → textRoom ≤ length out → (r ≡ length (settleText plan text)) × (after ≡ over (settleText plan text) out)

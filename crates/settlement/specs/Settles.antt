@@ -1,4 +1,4 @@
--- Last theorem: a text in any pieces, read and settled, prints what document 01 says of the whole text.
+-- What settling gives on a sheet of 4,096 cells, with room for the text, is what document 01 has printed (`settled-over`, `settled-first`).
 use Prim.Native.Nat.{ℕ, _≤_}
 use mathlib.Core.Path.{_≡_, refl, sym, ap, _∙_}
 use mathlib.Core.Bool.{Bool, true, false}
@@ -7,20 +7,17 @@ use native.Mathlib.Omega.{arith}
 use lib.Dec.{leb}
 use lib.ListN.{length, take, drop, length-append, length-drop}
 use lib.Seq.{take-at, length-take-le}
-use lib.IntN.{ℤ}
 use borrow.Author.Tests.{le-leb, leb-true}
 use Rattle.definitions.specs.Limits.{cellCount}
 use Rattle.definitions.specs.Answers.{Refusal, none, refuse}
 use Rattle.definitions.specs.Book.{Book}
 use Rattle.definitions.specs.Calls.{sealRefusal}
-use Rattle.definitions.specs.Settle.{Input, unreadable, refused, readable, inputText, settleText, bookText, unreadableText}
-use Rattle.definitions.specs.Plan.{Plan}
+use Rattle.definitions.specs.Settle.{Input, unreadable, refused, readable, inputText, bookText, unreadableText}
+use Rattle.definitions.specs.Plan.{Plan, over}
 use Rattle.laws.specs.Sizes.{accepted-sizes}
 use Rattle.listing.specs.Room.{listing-fits, refused-fits}
 use Rattle.listing.specs.Text.{textRoom, textSize, textSlice}
-use Rattle.text.specs.Reading.{numberLimit, reading, startReader, wordEnded, answerOf, inputFor}
-use Rattle.text.specs.Texts.{fedPieces, joined, finished, reads-pieces}
-use Rattle.settlement.specs.Settled.{Counts, settledText, settledSize, settledSlice}
+use Rattle.settlement.specs.Settled.{settledText, settledSize, settledSlice}
 
 -- on a sheet of 4,096 cells the text is the definition's
 pub printed-text : (plan : Plan) (input : Input) → settledText plan input cellCount ≡ inputText plan input
@@ -65,30 +62,26 @@ settled-length plan input cells out = go (leb textRoom (length out)) refl
         )
     go false e = refl
 
-pub settled-counts : (plan : Plan) (input : Input) (cells r : ℕ) (out after : List ℕ) → r ≡ settledSize plan input cells (length out) → after ≡ settledSlice plan input cells out → Counts r after
+-- r counts bytes at the start of the slice. The second part follows from the first; with both a caller's `&out[..r]` needs no proof.
+pub settled-counts : (plan : Plan) (input : Input) (cells r : ℕ) (out after : List ℕ) → r ≡ settledSize plan input cells (length out)
+    → after ≡ settledSlice plan input cells out → (r ≤ length after) × (r ≡ length (take r after))
 settled-counts plan input cells r out after e f =
     let within : r ≤ length after = omega (arith, ap length f ∙ settled-length plan input cells out, settled-within plan input cells (length out)) in
     (within, sym (length-take-le r after within))
 
--- the bytes given: the first of the slice, as many as the size says
-pub settled-first : (plan : Plan) (input : Input) (cells : ℕ) (out : List ℕ) → cells ≡ cellCount → textRoom ≤ length out
-    → take (settledSize plan input cells (length out)) (settledSlice plan input cells out) ≡ inputText plan input
+-- with 4,096 cells and room enough, the definition's text is written
+pub settled-over : (plan : Plan) (input : Input) (cells r : ℕ) (out after : List ℕ) → r ≡ settledSize plan input cells (length out)
+    → after ≡ settledSlice plan input cells out → cells ≡ cellCount → textRoom ≤ length out
+    → (r ≡ length (inputText plan input)) × (after ≡ over (inputText plan input) out)
 unfolding settledSize settledSlice
-settled-first plan input cells out e h =
-    rw (le-leb textRoom (length out) h, e)
-    (take-at (settledText plan input cellCount) (drop (length (settledText plan input cellCount)) out) (length (settledText plan input cellCount)) refl
-    ∙ printed-text plan input)
+settled-over plan input cells r out after size bytes e h =
+    let roomy = le-leb textRoom (length out) h in
+    let text : settledText plan input cells ≡ inputText plan input = rw e (printed-text plan input) in
+    (size ∙ rw (roomy, text) refl, bytes ∙ rw (roomy, text) refl)
 
--- what the reader answers once a text in these pieces has ended, with the numbers that it has stored
-abbrev pub inputRead : (stored : List ℤ) (pieces : List (List ℕ)) → Input
-inputRead stored pieces =
-    let read = wordEnded (fedPieces (reading startReader stored) pieces) in
-    inputFor (answerOf (read .reader .stage)) (read .numbers)
-
-pub settles : (plan : Plan) (stored : List ℤ) (pieces : List (List ℕ)) (cells : ℕ) (out : List ℕ)
-    → length stored ≡ numberLimit → cells ≡ cellCount → textRoom ≤ length out
-    → let input = inputRead stored pieces in
-    take (settledSize plan input cells (length out)) (settledSlice plan input cells out) ≡ settleText plan (joined pieces)
-unfolding settleText finished
-settles plan stored pieces cells out l e h =
-    settled-first plan (inputRead stored pieces) cells out e h ∙ ap (inputText plan) (reads-pieces stored pieces l)
+-- and these bytes are the first of the slice
+pub settled-first : (plan : Plan) (input : Input) (cells r : ℕ) (out after : List ℕ) → r ≡ settledSize plan input cells (length out)
+    → after ≡ settledSlice plan input cells out → cells ≡ cellCount → textRoom ≤ length out → take r after ≡ inputText plan input
+settled-first plan input cells r out after size bytes e h =
+    let o = settled-over plan input cells r out after size bytes e h in
+    rw (o .0, o .1) (take-at (inputText plan input) (drop (length (inputText plan input)) out) (length (inputText plan input)) refl)

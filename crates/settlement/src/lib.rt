@@ -1,17 +1,19 @@
-// From a text that was read to the text that settle prints: clears the book, opens its results and lists them, or names the refusal.
-// specs/ say what is printed for every input, and that a text in any pieces prints what document 01 says.
+// From a text to the text that settle prints: clears the book, opens its results and lists them, or names the refusal.
+// specs/ say what is printed and left for every input, and that this is what document 01 says. Where out has less room than a listing may
+// need, every call here gives 0 and leaves sheet and out as they are.
+ghost use Prim.Native.Nat.{_≤_};
 ghost use mathlib.Core.Path.{_≡_};
-ghost use lib.ListN.{length};
+ghost use lib.ListN.{length, take};
 ghost use lib.Dec.{leb};
 ghost use Rattle.definitions.specs.Answers.{refusalOf, none};
 ghost use Rattle.definitions.specs.Book.{book};
 ghost use Rattle.definitions.specs.Calls.{openRefusal, openedResults};
-ghost use Rattle.definitions.specs.Settle.{listing, readable, refused};
+ghost use Rattle.definitions.specs.Settle.{listing, readable, refused, settleInput};
 ghost use Rattle.definitions.specs.Sheet.{resultCount};
 ghost use Rattle.listing.specs.Text.{textRoom, textSize, textSlice};
 ghost use Rattle.plan.specs.Plan.{plan};
 ghost use Rattle.text.specs.Reading.{numberLimit, inputFor};
-ghost use Rattle.settlement.specs.Settled.{Counts, settledSize, settledSlice, settledSheet, tablesOf};
+ghost use Rattle.settlement.specs.Settled.{settledSize, settledSlice, settledSheet, tablesOf, Prints};
 use clearing::clear;
 use definitions::Limits;
 use definitions::Verdict;
@@ -19,12 +21,14 @@ use definitions::is_accepted;
 use definitions::number;
 use definitions::place;
 use judging::judge_counts;
+use listing::Listing;
 use listing::write_listing;
 use listing::write_refused;
 use listing::write_unreadable;
 use opening::open;
 use text::Input;
 use text::Reader;
+use text::read;
 
 // How many results a book has at most.
 const RESULTS: usize = Limits::BIDS + Limits::POOLS * Limits::POOLS + 2 * Limits::POOLS;
@@ -67,7 +71,7 @@ fn write_verdict(verdict: Verdict, out: &mut [u8]) -> usize
 }
 
 // Clears a book on the sheet lent and writes the listing of its results, or its refusal, at the start of out.
-pub fn settle_book(
+fn settle_book(
     n: usize,
     m: usize,
     bids: &[i32],
@@ -76,9 +80,12 @@ pub fn settle_book(
     out: &mut [u8],
 ) -> usize
     ensures size { λ r. ⌜ r ≡ settledSize plan (readable (book n m (now (bids .entry)) (now (capacities .entry)))) (length (now (sheet .entry))) (length (now (out .entry))) ⌝ }
-    ensures cells { λ _. ⌜ now (sheet .exit) ≡ settledSheet plan (readable (book n m (now (bids .entry)) (now (capacities .entry)))) (now (sheet .entry)) ⌝ }
+    ensures cells { λ _. ⌜ now (sheet .exit) ≡ settledSheet plan (readable (book n m (now (bids .entry)) (now (capacities .entry)))) (length (now (out .entry))) (now (sheet .entry)) ⌝ }
     ensures bytes { λ _. ⌜ now (out .exit) ≡ settledSlice plan (readable (book n m (now (bids .entry)) (now (capacities .entry)))) (length (now (sheet .entry))) (now (out .entry)) ⌝ }
 {
+    if out.len() < Listing::ROOM {
+        return 0;
+    }
     let cleared = clear(n, m, bids, capacities, sheet);
     let verdict = cleared.verdict;
     if !is_accepted(verdict) {
@@ -91,7 +98,7 @@ pub fn settle_book(
 fn settle_tables(n: usize, m: usize, numbers: &[i32], sheet: &mut [u32], out: &mut [u8]) -> usize
     requires { ⌜ length (now numbers) ≡ numberLimit ⌝ }
     ensures size { λ r. ⌜ r ≡ settledSize plan (tablesOf n m (now (numbers .entry))) (length (now (sheet .entry))) (length (now (out .entry))) ⌝ }
-    ensures cells { λ _. ⌜ now (sheet .exit) ≡ settledSheet plan (tablesOf n m (now (numbers .entry))) (now (sheet .entry)) ⌝ }
+    ensures cells { λ _. ⌜ now (sheet .exit) ≡ settledSheet plan (tablesOf n m (now (numbers .entry))) (length (now (out .entry))) (now (sheet .entry)) ⌝ }
     ensures bytes { λ _. ⌜ now (out .exit) ≡ settledSlice plan (tablesOf n m (now (numbers .entry))) (length (now (sheet .entry))) (now (out .entry)) ⌝ }
 {
     let by_counts = judge_counts(n, m);
@@ -111,13 +118,26 @@ pub fn settle(
     out: &mut [u8],
 ) -> usize
     ensures size { λ r. ⌜ r ≡ settledSize plan (inputFor input (now (numbers .entry))) (length (now (sheet .entry))) (length (now (out .entry))) ⌝ }
-    ensures cells { λ _. ⌜ now (sheet .exit) ≡ settledSheet plan (inputFor input (now (numbers .entry))) (now (sheet .entry)) ⌝ }
+    ensures cells { λ _. ⌜ now (sheet .exit) ≡ settledSheet plan (inputFor input (now (numbers .entry))) (length (now (out .entry))) (now (sheet .entry)) ⌝ }
     ensures bytes { λ _. ⌜ now (out .exit) ≡ settledSlice plan (inputFor input (now (numbers .entry))) (length (now (sheet .entry))) (now (out .entry)) ⌝ }
-    ensures counted { λ r. ⌜ Counts r (now (out .exit)) ⌝ }
+    ensures counted { λ r. ⌜ (r ≤ length (now (out .exit))) × (r ≡ length (take r (now (out .exit)))) ⌝ }
 {
     match input {
         Input::Unreadable => write_unreadable(out),
         Input::Refused(verdict) => write_verdict(verdict, out),
         Input::Ready { n, m } => settle_tables(n, m, numbers, sheet, out),
     }
+}
+
+// The same of a whole text: reads it and settles what it is.
+pub fn settle_text(text: &[u8], sheet: &mut [u32], out: &mut [u8]) -> usize
+    ensures size { λ r. ⌜ r ≡ settledSize plan (settleInput (now (text .entry))) (length (now (sheet .entry))) (length (now (out .entry))) ⌝ }
+    ensures cells { λ _. ⌜ now (sheet .exit) ≡ settledSheet plan (settleInput (now (text .entry))) (length (now (out .entry))) (now (sheet .entry)) ⌝ }
+    ensures bytes { λ _. ⌜ now (out .exit) ≡ settledSlice plan (settleInput (now (text .entry))) (length (now (sheet .entry))) (now (out .entry)) ⌝ }
+    ensures printed { λ r. ⌜ Prints plan (now (text .entry)) (length (now (sheet .entry))) (now (out .entry)) r (now (out .exit)) ⌝ }
+    ensures counted { λ r. ⌜ (r ≤ length (now (out .exit))) × (r ≡ length (take r (now (out .exit)))) ⌝ }
+{
+    let mut numbers = [0i32; Reader::NUMBERS];
+    let input = read(text, &mut numbers);
+    settle(input, &numbers, sheet, out)
 }

@@ -5,3 +5,4 @@ pub mod Steps
 pub mod Values
 pub mod Stages
 pub mod Texts
+pub mod Broken

@@ -125,6 +125,10 @@ unfoldable pub fed : Reading → List ℕ → Reading
 fed s [] = s
 fed s (byte ∷ text) = fed (stepped s byte) text
 
+-- what is fed where the rest of a text is not known: the byte of a question mark, which no text may have
+abbrev pub failedRead : List ℕ
+failedRead = 63 ∷ []
+
 -- ---- The answer
 
 abbrev pub completed : (n m read : ℕ) → Counts → Input

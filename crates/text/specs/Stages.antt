@@ -1,8 +1,8 @@
--- What a text is by the words that are left of it, stage by stage. Its theorems: one word more, the end of the text, and that a book is ready only if its counts pass.
+-- What a text is by the words that are left of it, stage by stage. Its theorems: one word more (`word-taken`), and the end of the text (`text-ended`).
 use Prim.{Unit, tt}
 use Prim.Native.Nat.{ℕ, _+_, _*_, _≤_, _<_}
 use mathlib.Core.Path.{_≡_, refl, sym, ap, _∙_}
-use mathlib.Core.Bool.{Bool, true, false, cond}
+use mathlib.Core.Bool.{Bool, true, false}
 use mathlib.Core.List.{List, [], _∷_, _++_, append-nil}
 use native.Mathlib.Omega.{arith}
 use native.Mathlib.Numerals.{add-one}
@@ -13,7 +13,6 @@ use lib.Seq.{length-take-le, take-take, take-add, drop-at, take-suc-set, append-
 use lib.IntN.{ℤ, pos, negsuc}
 use lib.Signed.{ltZ}
 use borrow.Author.Tests.{ltb-true, ltb-false, eqb-true, eqb-false, lt-ltb, le-ltb, ne-eqb}
-use Rattle.definitions.specs.declared.Verdict.{Verdict}
 use Rattle.definitions.specs.declared.Verdict.the-variants.{BidCount, PoolCount}
 use Rattle.definitions.specs.Limits.{bidLimit, poolLimit, bidNumbers}
 use Rattle.definitions.specs.Answers.{Refusal, none, refuse, refusalOf}
@@ -25,7 +24,7 @@ use Rattle.text.specs.declared.Stage.the-variants as stage
 use Rattle.text.specs.declared.Counts.{Counts}
 use Rattle.text.specs.declared.Counts.the-variants as counts
 use Rattle.text.specs.declared.Input.the-variants as input
-use Rattle.text.specs.Reading.{numberLimit, countsOf, begun, takenBy, placeFor, storedAt, completed, answerOf, inputFor}
+use Rattle.text.specs.Reading.{numberLimit, countsOf, begun, takenBy, placeFor, storedAt, answerOf, inputFor}
 use Rattle.text.specs.Values.{endedFor}
 
 -- how many numbers the tables have
@@ -230,33 +229,3 @@ text-ended (stage.Tables n m read) stored h l = go (eqb read (called n m)) refl
         rw (append-nil (take read stored), counts-passed n m (h .0), e, length-take-le read stored (omega arith), e) refl
 text-ended stage.Unreadable stored h l = refl
 text-ended (stage.Refused verdict) stored h l = refl
-
--- ---- A book is ready only if its counts pass, in every stage
-
-unready : {X : Type 0} (n m : ℕ) → input.Unreadable ≡ input.Ready n m → X
-unready n m e = let z : _≡_ {A = ℕ} 0 1 = cc in absurd (omega arith)
-
-refused-unready : {X : Type 0} (verdict : Verdict) (n m : ℕ) → input.Refused verdict ≡ input.Ready n m → X
-refused-unready verdict n m e = let z : _≡_ {A = ℕ} 0 1 = cc in absurd (omega arith)
-
-tables-passed : (a b read n m : ℕ) → completed a b read (countsOf a b) ≡ input.Ready n m → Passed n m
-tables-passed a b read n m e = go (counted a b) e
-  where
-    all : (t : Bool) → Passed a b → cond t (input.Ready a b) input.Unreadable ≡ input.Ready n m → Passed n m
-    all true p f =
-        let g : a ≡ n = cc in
-        let h : b ≡ m = cc in
-        (omega (arith, p .0), omega (arith, p .1), omega (arith, p .2))
-    all false p f = unready n m f
-
-    go : {c : Counts} {r : Refusal} → Counted a b c r → completed a b read c ≡ input.Ready n m → Passed n m
-    go (pass p) f = all (eqb read (called a b)) p f
-    go bids f = unready n m f
-    go pools f = unready n m f
-
-pub ready-passed : (s : Stage) (n m : ℕ) → answerOf s ≡ input.Ready n m → Passed n m
-ready-passed stage.First n m e = unready n m e
-ready-passed (stage.Second k) n m e = unready n m e
-ready-passed (stage.Tables a b read) n m e = tables-passed a b read n m e
-ready-passed stage.Unreadable n m e = unready n m e
-ready-passed (stage.Refused verdict) n m e = refused-unready verdict n m e

@@ -1,19 +1,15 @@
 -- One byte and one piece of the text: each case of a step, what is over stays, and that a text may be cut anywhere.
 use Prim.Native.Nat.{ℕ, _+_, _≤_, _<_}
 use mathlib.Core.Path.{_≡_, refl, ap, _∙_}
-use mathlib.Core.Bool.{Bool, true, false}
+use mathlib.Core.Bool.{true, false}
 use mathlib.Core.List.{List, [], _∷_, _++_}
 use native.Mathlib.Numerals.{add-one}
-use lib.Dec.{ltb}
-use lib.ListN.{length, getD, drop, drop-of-length-le, length-set}
+use lib.ListN.{length, getD, drop, drop-of-length-le}
 use lib.Seq.{drop-cons}
 use lib.IntN.{ℤ}
 use Rattle.definitions.specs.Settle.{blank}
-use Rattle.text.specs.declared.Ended.{Ended}
-use Rattle.text.specs.declared.Ended.the-variants.{Nothing, Fault, Number}
 use Rattle.text.specs.declared.Reader.{Reader}
-use Rattle.text.specs.Words.{endedOf}
-use Rattle.text.specs.Reading.{Reading, reading, numberLimit, over, placeFor, storedAt, wordEnded, wordGrown, stepped, fed}
+use Rattle.text.specs.Reading.{Reading, reading, over, wordEnded, wordGrown, stepped, fed}
 
 pub step-over : (s : Reading) (byte : ℕ) → over (s .reader .stage) ≡ true → stepped s byte ≡ s
 unfolding stepped
@@ -48,31 +44,3 @@ pub fed-append : (a b : List ℕ) (s : Reading) → fed (fed s a) b ≡ fed s (a
 unfolding fed
 fed-append [] b s = refl
 fed-append (byte ∷ a) b s = fed-append a b (stepped s byte)
-
--- ---- The numbers keep their places
-
-stored-length : (e : Ended) (at : ℕ) (numbers : List ℤ) → length (storedAt e at numbers) ≡ length numbers
-stored-length Nothing at numbers = refl
-stored-length Fault at numbers = refl
-stored-length (Number z) at numbers = go (ltb at numberLimit) refl
-  where
-    go : (t : Bool) → ltb at numberLimit ≡ t → length (storedAt (Number z) at numbers) ≡ length numbers
-    go true e = rw e (length-set numbers at z)
-    go false e = rw e refl
-
-pub ended-length : (s : Reading) → length (wordEnded s .numbers) ≡ length (s .numbers)
-unfolding wordEnded
-ended-length s = stored-length (endedOf (s .reader .word)) (placeFor (s .reader .stage)) (s .numbers)
-
-step-length : (s : Reading) (byte : ℕ) → length (stepped s byte .numbers) ≡ length (s .numbers)
-step-length s byte = go (over (s .reader .stage)) refl (blank byte) refl
-  where
-    go : (t : Bool) → over (s .reader .stage) ≡ t → (u : Bool) → blank byte ≡ u → length (stepped s byte .numbers) ≡ length (s .numbers)
-    go true o u b = rw (step-over s byte o) refl
-    go false o true b = rw (step-blank s byte o b) (ended-length s)
-    go false o false b = rw (step-grown s byte o b) refl
-
-pub fed-length : (text : List ℕ) (s : Reading) → length (fed s text .numbers) ≡ length (s .numbers)
-unfolding fed
-fed-length [] s = refl
-fed-length (byte ∷ text) s = fed-length text (stepped s byte) ∙ step-length s byte

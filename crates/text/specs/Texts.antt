@@ -1,10 +1,10 @@
--- Last theorem: a text in any pieces, read from the start to its end, is what document 01 says of the whole text.
+-- Last theorem: a text, read byte by byte from its start to its end, is what document 01 says of it (`reads`).
 use Prim.Native.Nat.{ℕ}
 use mathlib.Core.Path.{_≡_, refl, sym, ap, _∙_}
 use mathlib.Core.Bool.{Bool, true, false, true≢false}
 use mathlib.Core.List.{List, [], _∷_, _++_, append-nil}
-use lib.ListN.{length}
-use lib.IntN.{ℤ}
+use lib.ListN.{length, replicate}
+use lib.IntN.{ℤ, pos}
 use Rattle.definitions.specs.Settle.{blank, ended, words, wordsFrom, wholeOf, settleInput}
 use Rattle.definitions.specs.Settle as settle
 use Rattle.text.specs.declared.Word.{Word}
@@ -15,7 +15,7 @@ use Rattle.text.specs.declared.Stage.{Stage}
 use Rattle.text.specs.declared.Stage.the-variants as stage
 use Rattle.text.specs.Words.{endedOf}
 use Rattle.text.specs.Reading.{Reading, reading, startReader, numberLimit, over, takenBy, wordEnded, fed, answerOf, inputFor}
-use Rattle.text.specs.Steps.{step-blank, step-grown, over-stays, fed-append}
+use Rattle.text.specs.Steps.{step-blank, step-grown, over-stays}
 use Rattle.text.specs.Values.{wordFrom, word-more, word-ends}
 use Rattle.text.specs.Stages.{Held, Onward, continued, word-taken, text-ended}
 
@@ -24,7 +24,7 @@ abbrev pub inWord : Word → Stage → List ℤ → Reading
 inWord word s stored = reading (record { word = word; stage = s }) stored
 
 -- what the text is if it ends here
-unfoldable pub finished : Reading → settle.Input
+unfoldable finished : Reading → settle.Input
 finished s = inputFor (answerOf (wordEnded s .reader .stage)) (wordEnded s .numbers)
 
 -- ---- The answer is known
@@ -84,28 +84,15 @@ reads-from (byte ∷ text) word s stored h l = go (over s) refl (blank byte) ref
         rw (step-grown (inWord (wordFrom Empty word) s stored) byte o b, b, word-more word byte Empty)
         (onward (word ++ (byte ∷ [])) s stored h l)
 
--- a text in one piece
-pub reads : (stored : List ℤ) (text : List ℕ) → length stored ≡ numberLimit → finished (fed (reading startReader stored) text) ≡ settleInput text
-unfolding settleInput words wordFrom
-reads stored text l = reads-from text [] stage.First stored tt l
+-- no number yet: 0 in every place
+abbrev pub noneStored : List ℤ
+noneStored = replicate numberLimit (pos 0)
 
--- ---- Pieces
+-- a whole text, read from its start to its end, with `before` stored at first
+abbrev pub wholeRead : (before : List ℤ) (text : List ℕ) → Reading
+wholeRead before text = wordEnded (fed (reading startReader before) text)
 
--- one piece after another
-unfoldable pub fedPieces : Reading → List (List ℕ) → Reading
-fedPieces s [] = s
-fedPieces s (piece ∷ pieces) = fedPieces (fed s piece) pieces
-
--- the whole text
-unfoldable pub joined : List (List ℕ) → List ℕ
-joined [] = []
-joined (piece ∷ pieces) = piece ++ joined pieces
-
-pub pieces-joined : (pieces : List (List ℕ)) (s : Reading) → fedPieces s pieces ≡ fed s (joined pieces)
-unfolding fedPieces joined fed
-pieces-joined [] s = refl
-pieces-joined (piece ∷ pieces) s = pieces-joined pieces (fed s piece) ∙ fed-append piece (joined pieces) s
-
--- however the text is cut
-pub reads-pieces : (stored : List ℤ) (pieces : List (List ℕ)) → length stored ≡ numberLimit → finished (fedPieces (reading startReader stored) pieces) ≡ settleInput (joined pieces)
-reads-pieces stored pieces l = ap finished (pieces-joined pieces (reading startReader stored)) ∙ reads stored (joined pieces) l
+-- it is what document 01 says of it; by `fed-append` it may be fed in pieces, however it is cut
+pub reads : (before : List ℤ) (text : List ℕ) → length before ≡ numberLimit → let read = wholeRead before text in inputFor (answerOf (read .reader .stage)) (read .numbers) ≡ settleInput text
+unfolding settleInput words wordFrom finished
+reads before text l = reads-from text [] stage.First before tt l

@@ -1,14 +1,15 @@
 // Settle's reader: the text comes piece by piece, and what was read of it is a small state by value.
 // specs/ say what each step gives, and that a whole text gives what document 01 says, however it is cut.
 ghost use mathlib.Core.Path.{_≡_};
-ghost use Rattle.definitions.specs.Settle.{blank};
-ghost use Rattle.text.specs.Reading.{reading, startReader, fed, stepped, wordEnded, over, takenBy, countedBy, faulted, oneMore, begun, countsOf, placeFor, placeWithin, storedAt, answerOf, completed};
+ghost use Rattle.definitions.specs.Settle.{blank, settleInput};
+ghost use Rattle.text.specs.Reading.{reading, startReader, fed, failedRead, stepped, wordEnded, over, takenBy, countedBy, faulted, oneMore, begun, countsOf, placeFor, placeWithin, storedAt, answerOf, completed, inputFor};
+ghost use Rattle.text.specs.Texts.{noneStored, wholeRead};
 ghost use Rattle.text.specs.Words.{grownBy, digitAfter, capped, endedOf, signedOf};
 use definitions::Limits;
 use definitions::Verdict;
 
 // The word being read: nothing yet, a minus alone, digits with their sign and value, or no number whatever follows.
-enum Word {
+pub enum Word {
     Empty,
     Minus,
     Digits { negative: bool, value: u32 },
@@ -23,7 +24,7 @@ enum Ended {
 }
 
 // How far the text has come: n is next, m is next, numbers of the tables are next, or the answer is known.
-enum Stage {
+pub enum Stage {
     First,
     Second { n: usize },
     Tables { n: usize, m: usize, read: usize },
@@ -44,7 +45,8 @@ pub enum Input {
     Ready { n: usize, m: usize },
 }
 
-// What was read of a text: the word that is not yet ended, and the stage that the words before it led to.
+// What was read of a text: the word that is not yet ended, and the stage that the words before it led to. Only their types are public, so that
+// a caller's own types may hold a reader.
 pub struct Reader {
     word: Word,
     stage: Stage,
@@ -397,4 +399,25 @@ impl Reader {
         let stage = reader.stage;
         answer(stage)
     }
+
+    // The text breaks off: its rest is not known, and the part that is may be a whole book. So a byte that no text may have is fed: the text is
+    // then unreadable, unless its counts were refused before.
+    pub fn break_off(self, numbers: &mut [i32; Reader::NUMBERS]) -> Input
+        ensures { λ r. ⌜ r ≡ answerOf (wordEnded (fed (reading self (now (numbers .entry))) failedRead) .reader .stage) ⌝ }
+        ensures { λ _. ⌜ now (numbers .exit) ≡ wordEnded (fed (reading self (now (numbers .entry))) failedRead) .numbers ⌝ }
+    {
+        let last = self.feed(b"?", numbers);
+        last.finish(numbers)
+    }
+}
+
+// Reads a whole text. `numbers` gets the tables' numbers in order, up to the fault if there is one, and 0 in every further place.
+pub fn read(text: &[u8], numbers: &mut [i32; Reader::NUMBERS]) -> Input
+    ensures input { λ r. ⌜ inputFor r (now (numbers .exit)) ≡ settleInput (now (text .entry)) ⌝ }
+    ensures stored { λ _. ⌜ now (numbers .exit) ≡ wholeRead noneStored (now (text .entry)) .numbers ⌝ }
+{
+    *numbers = [0; Reader::NUMBERS];
+    let start = Reader::start();
+    let reader = start.feed(text, numbers);
+    reader.finish(numbers)
 }

@@ -2,17 +2,13 @@
 use definitions::Limits;
 use libc::STDOUT_FILENO;
 use listing::Listing;
-use settlement::settle;
-use text::Reader;
+use settlement::settle_text;
 
 // Prints a name, then what settle prints for the text.
 fn show(name: &[u8], text: &[u8]) {
-    let mut numbers = [0i32; Reader::NUMBERS];
-    let reader = Reader::start().feed(text, &mut numbers);
-    let input = reader.finish(&mut numbers);
     let mut sheet = [0u32; Limits::CELLS];
     let mut out = [0u8; Listing::ROOM];
-    let size = settle(input, &numbers, &mut sheet, &mut out);
+    let size = settle_text(text, &mut sheet, &mut out);
     io::write_all(STDOUT_FILENO, name);
     io::write_all(STDOUT_FILENO, &out[..size]);
 }

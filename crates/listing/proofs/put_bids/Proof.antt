@@ -7,7 +7,8 @@ use lib.IntN.{pos}
 use mir.Syntax.{w32}
 use mir.Val.{toZ, ofZ}
 use borrow.Author.Needs.{scaled-fits}
-use Rattle.definitions.specs.Settle.{bidLine, bidLines, linesTo}
+use Rattle.definitions.specs.Arithmetic.{joinTo}
+use Rattle.definitions.specs.Settle.{bidLine, bidLines}
 use Rattle.laws.specs.SignedTests.{back}
 use Rattle.listing.specs.Lines.{bidAt, no-lines, line-room, line-put, all-lines}
 use Rattle.listing.specs.Put.{Put, same-bytes, same-room, length-kept}
@@ -15,7 +16,7 @@ use Rattle.listing.proofs.put_bids.Statement.{statement}
 use Rattle.listing.proofs.put_bids.Tie as tie
 
 abbrev Inv-loop : tie.InvT-loop
-Inv-loop out₀ at n results end₀ i₀ out end i = (i ≤ n) × Put out₀ at (linesTo i (bidAt results)) out end
+Inv-loop out₀ at n results end₀ i₀ out end i = (i ≤ n) × Put out₀ at (joinTo i (bidAt results)) out end
 
 abbrev μ-loop : tie.MeasureT-loop
 μ-loop out₀ at n results end₀ i₀ out end i = n - i

@@ -1,14 +1,15 @@
 -- `put_flows` meets its contract. Invariant: the slice holds the lines of the first a rows, and `end` lies behind them. Measure: the rows left.
 use Prim.Native.Nat.{_-_, _≤_}
 use native.Mathlib.Omega.{arith}
-use Rattle.definitions.specs.Settle.{flowLines, linesTo}
+use Rattle.definitions.specs.Arithmetic.{joinTo}
+use Rattle.definitions.specs.Settle.{flowLines}
 use Rattle.listing.specs.Lines.{rowLines, no-lines, line-room, line-put, all-lines}
 use Rattle.listing.specs.Put.{Put, length-kept}
 use Rattle.listing.proofs.put_flows.Statement.{statement}
 use Rattle.listing.proofs.put_flows.Tie as tie
 
 abbrev Inv-loop : tie.InvT-loop
-Inv-loop out₀ at n m results end₀ a₀ out end a = (a ≤ m) × Put out₀ at (linesTo a (λ a. rowLines n m a results)) out end
+Inv-loop out₀ at n m results end₀ a₀ out end a = (a ≤ m) × Put out₀ at (joinTo a (λ a. rowLines n m a results)) out end
 
 abbrev μ-loop : tie.MeasureT-loop
 μ-loop out₀ at n m results end₀ a₀ out end a = m - a

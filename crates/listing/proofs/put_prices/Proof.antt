@@ -7,7 +7,8 @@ use lib.IntN.{pos}
 use mir.Syntax.{w32}
 use mir.Val.{toZ, ofZ}
 use borrow.Author.Needs.{scaled-fits}
-use Rattle.definitions.specs.Settle.{priceLine, priceLines, linesTo}
+use Rattle.definitions.specs.Arithmetic.{joinTo}
+use Rattle.definitions.specs.Settle.{priceLine, priceLines}
 use Rattle.laws.specs.SignedTests.{back}
 use Rattle.listing.specs.Lines.{priceAt, no-lines, line-room, line-put, all-lines}
 use Rattle.listing.specs.Put.{Put, same-bytes, same-room, length-kept}
@@ -15,7 +16,7 @@ use Rattle.listing.proofs.put_prices.Statement.{statement}
 use Rattle.listing.proofs.put_prices.Tie as tie
 
 abbrev Inv-loop : tie.InvT-loop
-Inv-loop out₀ at n m results end₀ p₀ out end p = (p ≤ m) × Put out₀ at (linesTo p (priceAt n m results)) out end
+Inv-loop out₀ at n m results end₀ p₀ out end p = (p ≤ m) × Put out₀ at (joinTo p (priceAt n m results)) out end
 
 abbrev μ-loop : tie.MeasureT-loop
 μ-loop out₀ at n m results end₀ p₀ out end p = m - p

@@ -7,7 +7,8 @@ use lib.IntN.{pos}
 use mir.Syntax.{w32}
 use mir.Val.{toZ, ofZ}
 use borrow.Author.Needs.{scaled-fits}
-use Rattle.definitions.specs.Settle.{flowLine, linesTo}
+use Rattle.definitions.specs.Arithmetic.{joinTo}
+use Rattle.definitions.specs.Settle.{flowLine}
 use Rattle.laws.specs.SignedTests.{back}
 use Rattle.listing.specs.Lines.{flowAt, rowLines, in-table, no-lines, line-room, line-put, all-lines}
 use Rattle.listing.specs.Put.{Put, same-bytes, same-room, length-kept}
@@ -15,7 +16,7 @@ use Rattle.listing.proofs.put_row.Statement.{statement}
 use Rattle.listing.proofs.put_row.Tie as tie
 
 abbrev Inv-loop : tie.InvT-loop
-Inv-loop out₀ at n m a results end₀ b₀ out end b = (b ≤ m) × Put out₀ at (linesTo b (flowAt n m a results)) out end
+Inv-loop out₀ at n m a results end₀ b₀ out end b = (b ≤ m) × Put out₀ at (joinTo b (flowAt n m a results)) out end
 
 abbrev μ-loop : tie.MeasureT-loop
 μ-loop out₀ at n m a results end₀ b₀ out end b = m - b

@@ -1,7 +1,9 @@
 -- `list_text` meets its contract: the sheet has 4,096 cells and out has the room that a listing may need.
 use mathlib.Core.Path.{refl}
 use borrow.Author.Needs.{needs}
-use Rattle.settle.specs.Whole.{prints}
+use Rattle.text.specs.Reading.{inputFor}
+use Rattle.plan.specs.Plan.{plan}
+use Rattle.settlement.specs.Settles.{settled-first}
 use Rattle.settle.proofs.list_text.Statement.{statement}
 use Rattle.settle.proofs.list_text.Tie as tie
 
@@ -15,7 +17,7 @@ returns : tie.Need-returns
 returns c =
     let a = c .before .before .before .before .args in
     let e = c .before .settle .ensures in
-    (prints (a .input) (a .numbers .now) _ _ (a .out .now) _ refl (search needs) (e .0) (e .1 .1 .0), e .1 .1 .1)
+    (settled-first plan (inputFor (a .input) (a .numbers .now)) _ _ (a .out .now) _ (e .0) (e .1 .1 .0) refl (search needs), e .1 .1 .1)
 
 pub list-text-spec : {M : Type 1} → statement M
 list-text-spec = tie.close (tie.spec slice-aggregate-settle settle-requires returns)

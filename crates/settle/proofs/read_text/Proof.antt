@@ -1,13 +1,15 @@
--- `read_text` meets its contract. The invariant: the reader and the numbers are those of the pieces so far, one after another.
--- A read that fails is one piece more, the last one. The measure is the number of turns that are left.
+-- `read_text` meets its contract. The invariant: however the reads go on, there are reads from the start that lead to the same.
+-- The measure is the number of turns that are left.
+use Prim.Native.Nat.{_-_}
+use mathlib.Core.Path.{sym, _∙_}
 use native.Mathlib.Omega.{arith}
 use borrow.Author.Needs.{needs}
-use Rattle.settle.specs.Whole.{SoFar, nothing-read, piece-read, text-ended}
+use Rattle.settle.specs.Whole.{SoFar, no-turn, turn-onward, turn-over, turns-over}
 use Rattle.settle.proofs.read_text.Statement.{statement}
 use Rattle.settle.proofs.read_text.Tie as tie
 
 abbrev Inv-loop : tie.InvT-loop
-Inv-loop numbers₀ reader₀ turns₀ numbers reader turns = SoFar numbers₀ reader numbers
+Inv-loop numbers₀ reader₀ turns₀ numbers reader turns = SoFar numbers₀ reader numbers turns
 
 abbrev μ-loop : tie.MeasureT-loop
 μ-loop numbers₀ reader₀ turns₀ numbers reader turns = turns
@@ -16,7 +18,7 @@ start-requires : tie.Need-start-requires Inv-loop μ-loop
 start-requires c κs = search needs
 
 loop-holds : tie.Need-loop-holds Inv-loop μ-loop
-loop-holds c = nothing-read _ _ (c .start .ensures)
+loop-holds c = no-turn _ _ (c .start .ensures)
 
 buffer-requires : tie.Need-buffer-requires Inv-loop μ-loop
 buffer-requires c κs = search needs
@@ -27,24 +29,24 @@ slice-aggregate-read c = search needs
 read-requires : tie.Need-read-requires Inv-loop μ-loop
 read-requires c κs = search needs
 
-feed-failure-requires : tie.Need-feed-failure-requires Inv-loop μ-loop
-feed-failure-requires c κs = search needs
+slice-aggregate-take-turn : tie.Need-slice-aggregate-take-turn Inv-loop μ-loop
+slice-aggregate-take-turn c = search needs
 
-finish-requires : tie.Need-finish-requires Inv-loop μ-loop
-finish-requires c κs = search needs
+take-turn-requires : tie.Need-take-turn-requires Inv-loop μ-loop
+take-turn-requires c κs = search needs
+
+enum-known-next : tie.Need-enum-known-next Inv-loop μ-loop
+enum-known-next c = search needs
+
+enum-known-input : tie.Need-enum-known-input Inv-loop μ-loop
+enum-known-input c = search needs
 
 returns : tie.Need-returns Inv-loop μ-loop
 returns c =
-    let l = c .before .before .before .before .before .before .before .before .before .before .loop in
-    let f = c .before .before .feed-failure .ensures in
-    let s = piece-read _ (l .reader) _ (l .numbers) _ _ (l .inv) (f .0) (f .1) in
-    text-ended _ _ _ _ _ s (c .finish .ensures .0) (c .finish .ensures .1)
-
-slice-aggregate-feed-piece : tie.Need-slice-aggregate-feed-piece Inv-loop μ-loop
-slice-aggregate-feed-piece c = search needs
-
-feed-piece-requires : tie.Need-feed-piece-requires Inv-loop μ-loop
-feed-piece-requires c κs = search needs
+    let told = c .before in
+    let t = told .before .before in
+    let l = t .before .before .before .before .before .before .before .before .loop in
+    turn-over _ (l .reader) (l .numbers) _ (l .turns) (l .turns - 1) _ _ _ (l .inv) (omega arith) (sym (t .take-turn .ensures .0) ∙ told .input .given .1) (t .take-turn .ensures .1)
 
 sub-turns : tie.Need-sub-turns Inv-loop μ-loop
 sub-turns c = omega arith
@@ -54,16 +56,18 @@ loop-less c = omega arith
 
 loop-again : tie.Need-loop-again Inv-loop μ-loop
 loop-again c =
-    let l = c .before .before .before .before .before .before .before .before .before .before .loop in
-    piece-read _ (l .reader) _ (l .numbers) _ _ (l .inv) (c .feed-piece .ensures .0) (c .feed-piece .ensures .1)
+    let told = c .before in
+    let t = told .before .before in
+    let l = t .before .before .before .before .before .before .before .before .loop in
+    turn-onward _ (l .reader) _ (l .numbers) _ (l .turns) _ _ _ (l .inv) (omega arith) (sym (t .take-turn .ensures .0) ∙ told .next .given .1) (t .take-turn .ensures .1)
 
-finish-requires-2 : tie.Need-finish-requires-2 Inv-loop μ-loop
-finish-requires-2 c κs = search needs
+break-off-requires : tie.Need-break-off-requires Inv-loop μ-loop
+break-off-requires c κs = search needs
 
 returns-2 : tie.Need-returns-2 Inv-loop μ-loop
 returns-2 c =
     let l = c .before .before .before .loop in
-    text-ended _ (l .reader) _ (l .numbers) _ (l .inv) (c .finish2 .ensures .0) (c .finish2 .ensures .1)
+    turns-over _ (l .reader) (l .numbers) _ (l .turns) _ (l .inv) (omega arith) (c .break-off .ensures .0) (c .break-off .ensures .1)
 
 pub read-text-spec : {M : Type 1} → statement M
 read-text-spec =
@@ -76,13 +80,13 @@ read-text-spec =
     buffer-requires
     slice-aggregate-read
     read-requires
-    feed-failure-requires
-    finish-requires
+    slice-aggregate-take-turn
+    take-turn-requires
+    enum-known-next
+    enum-known-input
     returns
-    slice-aggregate-feed-piece
-    feed-piece-requires
     sub-turns
     loop-less
     loop-again
-    finish-requires-2
+    break-off-requires
     returns-2)

@@ -14,7 +14,7 @@ list-text-requires c κs = search needs
 returns : tie.Need-returns
 returns c =
     let e = c .list-text .ensures in
-    (prints-whole _ _ _ _ _ refl (c .before .before .before .read-text .ensures) (e .0), e .1)
+    (prints-whole _ _ _ _ refl (c .before .before .before .read-text .ensures) (e .0), e .1)
 
 pub settled-spec : {M : Type 1} → statement M
 settled-spec = tie.close (tie.spec read-text-requires list-text-requires returns)

@@ -55,7 +55,7 @@ returns c =
     let w = c .before .before .write-verdict in (
       w .ensures .0 ∙ same-size (refused (refusalOf (judged .judge-counts .result))) 0 (readable (bookAt s)) cells (s .args .out .now) text,
       (
-        sheet-kept (bookAt s) (s .args .sheet .now) refuses,
+        sheet-kept (bookAt s) (length (s .args .out .now)) (s .args .sheet .now) refuses,
         w .ensures .1 ∙ same-slice (refused (refusalOf (judged .judge-counts .result))) 0 (readable (bookAt s)) cells (s .args .out .now) text,
       ),
     )
@@ -111,7 +111,7 @@ returns-2 c =
     let k : called (s .args .n) (s .args .m) - bidNumbers * s .args .n ≡ s .args .m * s .args .m = omega arith in (
       b .settle-book .ensures .0 ∙ ap (λ (j : ℕ). settledSize plan (readable (bookOf s j)) cells (length (s .args .out .now))) k,
       (
-        b .settle-book .ensures .1 .0 ∙ ap (λ (j : ℕ). settledSheet plan (readable (bookOf s j)) (s .args .sheet .now)) k,
+        b .settle-book .ensures .1 .0 ∙ ap (λ (j : ℕ). settledSheet plan (readable (bookOf s j)) (length (s .args .out .now)) (s .args .sheet .now)) k,
         b .settle-book .ensures .1 .1 ∙ ap (λ (j : ℕ). settledSlice plan (readable (bookOf s j)) cells (s .args .out .now)) k,
       ),
     )
