@@ -1,18 +1,17 @@
 -- The sealed sheet of a sound book is a sheet: every cell is below p (`sealed-is-sheet`).
 use Prim.Native.Nat.{ℕ, zero, suc, _+_, _-_, _*_, _/_, _%_, _≤_, _<_}
-use mathlib.Core.Path.{_≡_, refl, sym, ap, _∙_}
-use mathlib.Core.Bool.{Bool, true, false}
+use mathlib.Core.Path.{_≡_, ap}
+use mathlib.Core.Bool.{Bool}
 use native.Mathlib.Omega.{arith}
 use native.Mathlib.Nat.{mod-lt, div-lt-iff-lt-mul, div-add-mod'}
-use lib.IntN.{ℤ, pos, natAbs}
+use lib.IntN.{pos, natAbs}
 use lib.ListN.{length, getD}
 use Rattle.definitions.specs.Limits.{modulus, greatestPositive, bidNumbers}
-use Rattle.definitions.specs.Arithmetic.{residue}
 use Rattle.definitions.specs.Book.{Book, capacityEntry}
 use Rattle.definitions.specs.Sheet.{sealedSheet, firstResult}
 use Rattle.definitions.specs.Machine.{cell, IsSheet}
 use Rattle.laws.specs.Tests.{Lt?, less, more, lt?}
-use Rattle.laws.specs.AcceptedBook.{Sound, poolIndex}
+use Rattle.laws.specs.AcceptedBook.{Sound}
 use Rattle.residues.specs.Residues.{residue-below}
 use Rattle.plan.specs.Sealed.{sealed-bid, sealed-capacity, sealed-zero, sealed-length}
 

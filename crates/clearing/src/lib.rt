@@ -1,10 +1,8 @@
 // Clearing: seals a book, runs the plan on the sheet, gives the count of orders and the welfare.
 ghost use mathlib.Core.Path.{_≡_};
-ghost use Prim.Native.Nat.{_≤_, _<_};
 ghost use mathlib.Core.List.{List};
 ghost use lib.ListN.{length};
 ghost use lib.IntN.{ℤ};
-ghost use Rattle.definitions.specs.Limits.{bidLimit, poolLimit};
 ghost use Rattle.definitions.specs.Answers.{refusalOf, none};
 ghost use Rattle.definitions.specs.Book.{book};
 ghost use Rattle.definitions.specs.Sheet.{amountCell};

@@ -15,7 +15,7 @@ use definitions::Verdict;
 use definitions::is_accepted;
 
 // The pool count: 2.
-pub fn judge_pools(m: usize) -> Verdict
+fn judge_pools(m: usize) -> Verdict
     ensures { λ r. ⌜ refusalOf r ≡ poolsRefusal m ⌝ }
 {
     if m == 0 {

@@ -1,5 +1,6 @@
 // Runs the plan bytes of standard input on an empty sheet, and prints the count of orders and every cell that is not 0, or the refusal.
 // A part of a plan is never run: where more is left to read than the room takes, or a read fails, `not read whole` is printed.
+ghost use Rattle.io.specs.Counts.{Counts};
 use definitions::Limits;
 use definitions::is_accepted;
 use definitions::number;
@@ -37,14 +38,39 @@ fn print_cells(sheet: &[u32; Limits::CELLS]) {
     }
 }
 
+// How many bytes were read, and whether they are all: each read is asked whether it failed, and the end is one that gives nothing.
+struct Gathered {
+    size: usize,
+    whole: bool,
+}
+
+fn gather(bytes: &mut [u8]) -> Gathered
+    ensures { λ r. ⌜ Counts (r .size) (now (bytes .exit)) ⌝ }
+{
+    let mut size = 0;
+    while size < bytes.len() {
+        let got = libc::read(STDIN_FILENO, &mut bytes[size..]);
+        if got < 0 {
+            return Gathered { size, whole: false };
+        }
+        if got == 0 {
+            return Gathered { size, whole: true };
+        }
+        size += io::count(got, &bytes[size..]);
+    }
+    let mut more = io::buffer();
+    let whole = libc::read(STDIN_FILENO, &mut more) == 0;
+    Gathered { size, whole }
+}
+
 fn main() {
     let mut bytes = [0u8; Replay::ROOM];
-    let size = io::read_full(STDIN_FILENO, &mut bytes);
-    let mut more = io::buffer();
-    if libc::read(STDIN_FILENO, &mut more) != 0 {
+    let gathered = gather(&mut bytes);
+    if !gathered.whole {
         io::write_all(STDOUT_FILENO, b"not read whole\n");
         return;
     }
+    let size = gathered.size;
     let mut sheet = [0u32; Limits::CELLS];
     let ran = run(&mut sheet, &bytes[..size]);
     let verdict = ran.verdict;
