@@ -22,7 +22,8 @@ uint32_t plan_total(uint64_t n, uint64_t m, uint8_t *out, size_t out_length);
 
 /* Fills bytes with as many whole orders as fit, from a position of the plan on, and keeps the bytes after them.
  * 24 bytes to out, three numbers of 8 bytes each, lowest byte first: the count of bytes, the count of orders, the next position.
- * The first position is 0; the last one is the total, where nothing is left to write. */
+ * The first position is 0; the last one is the total, where nothing is left to write. A call that is not refused gives 0 orders
+ * there and nowhere else: a loop may stop at the first such call, or at the total, and has then got exactly the plan's bytes. */
 uint32_t plan_bytes(uint64_t n, uint64_t m, uint64_t position, uint8_t *bytes, size_t bytes_length, uint8_t *out,
                     size_t out_length);
 
