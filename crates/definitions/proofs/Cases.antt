@@ -1,19 +1,6 @@
--- What holds at every index below a small count holds at each: for bids, pools and lines of small books.
-use Prim.Native.Nat.{ℕ, zero, suc, _+_, _≤_, _<_}
-use mathlib.Core.Path.{_≡_}
+-- What is shown at each index below a small count holds at every one: for bids, pools and lines of small books.
+use Prim.Native.Nat.{ℕ, zero, suc, _<_}
 use native.Mathlib.Omega.{arith}
-use Rattle.definitions.specs.Book.{Book, size, capacity}
-use Rattle.definitions.specs.Clearing.{Clearing, sold, bought, inflow, outflow}
-
--- the three claims of a feasible clearing, at a bid, at a line and in a pool
-abbrev pub Within : Book → Clearing → ℕ → Type 0
-Within B c i = c .accepted i ≤ size B i
-
-abbrev pub Carried : Book → Clearing → ℕ → ℕ → Type 0
-Carried B c a b = c .flow a b ≤ capacity B a b
-
-abbrev pub Balanced : Book → Clearing → ℕ → Type 0
-Balanced B c p = sold B (c .accepted) p + inflow B (c .flow) p ≡ bought B (c .accepted) p + outflow B (c .flow) p
 
 pub below-one : (A : ℕ → Type 0) → A 0 → (i : ℕ) → i < 1 → A i
 below-one A a zero l = a

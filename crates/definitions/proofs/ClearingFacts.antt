@@ -1,14 +1,14 @@
 -- Merit order, used amounts, dictionary order, feasibility, welfare and prices on small books, by computation.
-use Prim.Native.Nat.{ℕ, zero, suc, _+_, _*_, _≤_, _<_}
+use Prim.Native.Nat.{ℕ, zero, suc, _+_, _*_}
 use mathlib.Core.Path.{_≡_, refl}
 use mathlib.Core.Bool.{true, false}
 use mathlib.Core.List.{List, [], _∷_}
 use native.Mathlib.Omega.{arith}
 use lib.ListN.{getD}
 use lib.IntN.{pos, negℤ}
-use Rattle.definitions.proofs.Cases.{Within, Carried, Balanced, below-one, below-two, below-three, lines-of-two}
+use Rattle.definitions.proofs.Cases.{below-one, below-two, below-three, lines-of-two}
 use Rattle.definitions.specs.Arithmetic.{sumTo, sumZ}
-use Rattle.definitions.specs.Book.{Book, book, size, capacity}
+use Rattle.definitions.specs.Book.{Book, book}
 use Rattle.definitions.specs.Examples.{bookOne, bookTwo, bookFour, bookFive}
 use Rattle.definitions.specs.Clearing.{Clearing, Feasible, Best, Permitted, NoGreater, equal, less, sold, bought, inflow, outflow, welfare, before, used, missing, present, poolPrice, highest}
 
@@ -44,9 +44,9 @@ turned = listed 1 (5 ∷ 1 ∷ 4 ∷ []) []
 right-feasible : Feasible bookFour right
 unfolding bookFour right sold bought inflow outflow sumTo
 right-feasible = record {
-  amounts = below-three (Within bookFour right) (omega arith) (omega arith) (omega arith);
+  amounts = below-three _ (omega arith) (omega arith) (omega arith);
   flows = λ a b l r. omega arith;
-  balance = below-one (Balanced bookFour right) refl;
+  balance = below-one _ refl;
 }
 
 -- at bid 3, index 2, `right` uses 3 and `turned` 0, with the sale equal: so `turned` is not best
@@ -61,16 +61,16 @@ not-turned best = go (best .greatest right right-feasible)
     go (less (suc (suc zero)) l q h) = omega arith
     go (less (suc (suc (suc i))) l q h) = omega arith
 
--- ---- example 2: what it accepts, a flow above its line, a pool out of balance, a best clearing that is not feasible
+-- ---- example 2: what it accepts, a flow above its line, an amount above its size, a pool out of balance; and a best clearing that is not feasible
 stated : Clearing
 stated = listed 2 (3 ∷ 3 ∷ []) (0 ∷ 3 ∷ 0 ∷ 0 ∷ [])
 
 stated-feasible : Feasible bookTwo stated
 unfolding bookTwo stated sold bought inflow outflow sumTo
 stated-feasible = record {
-  amounts = below-two (Within bookTwo stated) (omega arith) (omega arith);
-  flows = lines-of-two (Carried bookTwo stated) (omega arith) (omega arith) (omega arith) (omega arith);
-  balance = below-two (Balanced bookTwo stated) refl refl;
+  amounts = below-two _ (omega arith) (omega arith);
+  flows = lines-of-two _ (omega arith) (omega arith) (omega arith) (omega arith);
+  balance = below-two _ refl refl;
 }
 
 above-line : Feasible bookTwo (listed 2 (4 ∷ 4 ∷ []) (0 ∷ 4 ∷ 0 ∷ 0 ∷ [])) → ⊥
@@ -85,10 +85,10 @@ out-of-balance : Feasible bookTwo (listed 2 (3 ∷ 2 ∷ []) (0 ∷ 3 ∷ 0 ∷ 
 unfolding bookTwo sold bought inflow outflow sumTo
 out-of-balance h = omega (arith, h .balance 1 (omega arith))
 
--- amounts that no feasible clearing passes in dictionary order, but with no flow that carries them
-best-is-feasible : Best bookTwo (listed 2 (10 ∷ 6 ∷ []) (0 ∷ 4 ∷ 0 ∷ 0 ∷ [])) → ⊥
-unfolding bookTwo
-best-is-feasible h = omega (arith, h .feasible .flows 0 1 (omega arith) (omega arith))
+-- the amounts of example 1's best clearing, with a flow that no line carries
+best-is-feasible : Best bookOne (listed 1 (6 ∷ 6 ∷ []) (4 ∷ [])) → ⊥
+unfolding bookOne
+best-is-feasible h = omega (arith, h .feasible .flows 0 0 (omega arith) (omega arith))
 
 -- a pair of pools that ships both ways
 both-ways : Permitted (book 0 2 [] (pos 0 ∷ pos 7 ∷ pos 7 ∷ pos 0 ∷ [])) (listed 2 [] (0 ∷ 1 ∷ 1 ∷ 0 ∷ [])) → ⊥

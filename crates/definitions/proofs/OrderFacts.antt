@@ -7,10 +7,10 @@ use Rattle.definitions.specs.declared.Order.the-variants.{Constant, Sum,
 use Rattle.definitions.specs.Limits.{cellCount}
 use Rattle.definitions.specs.Machine.{times, lessThan, stepOf, runOf}
 use Rattle.definitions.specs.Answers.{refuse, none}
-use Rattle.definitions.specs.Bytes.{groups, numberBytes, numbersOf, orderBytes, fault, found, readGroups, numberAt, kindAt, cellAt, constantAt, cellsOrders, ofKind, lastAt, restAt, targetAt, orderAt, parse, parseFrom}
+use Rattle.definitions.specs.Bytes.{groups, numberBytes, numbersOf, orderBytes, fault, found, readGroups, numberAt, kindAt, cellAt, constantAt, lastAt, restAt, targetAt, orderAt, parse, parseFrom}
 use Rattle.definitions.specs.Calls.{runRefusal, runSheet, runCount, cellsRefusal, firstFrom}
 
--- products just below and above p; the comparison at the edge of the sign
+-- products below and above p; the comparison at the edge of the sign
 products : times 32768 65535 ∷ times 46340 46341 ∷ times 65536 65536 ∷ [] ≡ 2147450880 ∷ 2147441940 ∷ 2 ∷ []
 products = refl
 
@@ -46,10 +46,6 @@ kinds-read :
     ≡ found (Constant 9 8) 3 ∷ found (Sum 9 8 7) 4 ∷ found (Difference 9 8 7) 4 ∷ found (Product 9 8 7) 4 ∷ found (Less 9 8 7) 4 ∷ found (Equal 9 8 7) 4 ∷ []
 unfolding orderBytes numberBytes groups orderAt targetAt restAt lastAt kindAt cellAt constantAt numberAt readGroups
 kinds-read = refl
-
--- no order of two cells has another kind
-other-kinds : ofKind 0 4 (cellsOrders 9 8 7) ∷ ofKind 6 4 (cellsOrders 9 8 7) ∷ [] ≡ fault 10 ∷ fault 10 ∷ []
-other-kinds = refl
 
 -- reading: an order at an offset; 9 after no byte and after four; 11 after five, for a longer form, and for 2^32; a lone kind 6 is 10, in a longer form 11;
 -- 12 for a cell and a constant just beyond

@@ -5,10 +5,9 @@ use mathlib.Core.List.{List, [], _∷_}
 use native.Mathlib.Omega.{arith}
 use lib.ListN.{getD, replicate}
 use lib.IntN.{pos, negℤ}
-use Rattle.definitions.proofs.Cases.{Within, Balanced, below-one, below-two}
+use Rattle.definitions.proofs.Cases.{below-one, below-two}
 use Rattle.definitions.specs.declared.Order.the-variants.{Constant, Sum}
 use Rattle.definitions.specs.Arithmetic.{sumTo, sumZ, joinTo}
-use Rattle.definitions.specs.Book.{size}
 use Rattle.definitions.specs.Sheet.{sealedSheet, amountCell, priceCell, presenceCell, firstScratch}
 use Rattle.definitions.specs.Examples.{bookOne, bookTwo, bookFive}
 use Rattle.definitions.specs.Clearing.{Clearing, Feasible, Best, NoGreater, equal, less, sold, bought, inflow, outflow, welfare, before, used, poolPrice, highest}
@@ -26,9 +25,9 @@ amounts xs = record { accepted = λ i. getD xs i 0; flow = λ a b. 0 }
 six-feasible : Feasible bookOne (amounts (6 ∷ 6 ∷ []))
 unfolding bookOne sold bought inflow outflow sumTo
 six-feasible = record {
-  amounts = below-two (Within bookOne (amounts (6 ∷ 6 ∷ []))) (omega arith) (omega arith);
+  amounts = below-two _ (omega arith) (omega arith);
   flows = λ a b l r. omega arith;
-  balance = below-one (Balanced bookOne (amounts (6 ∷ 6 ∷ []))) refl;
+  balance = below-one _ refl;
 }
 
 one-trades : (c : Clearing) → Best bookOne c → 0 < c .accepted 0
@@ -48,7 +47,7 @@ unfolding bookFive sold bought inflow outflow sumTo
 none-feasible = record {
   amounts = λ i l. omega arith;
   flows = λ a b l r. omega arith;
-  balance = below-one (Balanced bookFive (amounts [])) refl;
+  balance = below-one _ refl;
 }
 
 five-rests : (c : Clearing) → Best bookFive c → c .accepted 0 ≡ 0
@@ -75,19 +74,21 @@ unfolding bookOne sold bought inflow outflow sumTo
 only-the-first-bid s e h = omega (arith, one-trades _ (h .best), h .best .feasible .balance 0 (omega arith))
 
 -- "A fixed clearing for every book": two books of equal counts with the same amounts
-fixed-clearing : (s t : List ℕ) → Outcome bookOne s → Outcome bookFive t → cell s (amountCell 2 1 0) ≡ cell t (amountCell 2 1 0) → ⊥
+one-fixed-clearing : (s t : List ℕ) → Outcome bookOne s → Outcome bookFive t → cell s (amountCell 2 1 0) ≡ cell t (amountCell 2 1 0) → ⊥
 unfolding bookOne bookFive
-fixed-clearing s t h k e = omega (arith, one-trades _ (h .best), five-rests _ (k .best))
+one-fixed-clearing s t h k e = omega (arith, one-trades _ (h .best), five-rests _ (k .best))
 
--- a scratch cell left
-scratch-left : (s : List ℕ) (c : ℕ) → firstScratch 2 1 ≤ c → cell s c ≡ 1 → Outcome bookOne s → ⊥
+-- a scratch cell left at another number than 0
+one-scratch-cell-left : (s : List ℕ) (c : ℕ) → firstScratch 2 1 ≤ c → 0 < cell s c → Outcome bookOne s → ⊥
 unfolding bookOne
-scratch-left s c l e h = omega (arith, h .scratch c l)
+one-scratch-cell-left s c l some h = omega (arith, h .scratch c l)
 
--- the input cells, the first and the last
-input-changed : (s : List ℕ) → Outcome bookTwo s → (cell s 0 ≡ 1) × (cell s 2 ≡ 2147483637) × (cell s 9 ≡ 0)
+-- ---- what else an outcome says
+
+-- input cells are as sealed: the first, one of a negative number, the last
+inputs-kept : (s : List ℕ) → Outcome bookTwo s → (cell s 0 ≡ 1) × (cell s 2 ≡ 2147483637) × (cell s 9 ≡ 0)
 unfolding bookTwo sealedSheet
-input-changed s h = (h .inputs 0 (omega arith), h .inputs 2 (omega arith), h .inputs 9 (omega arith))
+inputs-kept s h = (h .inputs 0 (omega arith), h .inputs 2 (omega arith), h .inputs 9 (omega arith))
 
 -- a pool with no sale has no price: "both cells are 0"
 no-price : (s : List ℕ) → Outcome bookTwo s → (cell s (priceCell 2 2 1) ≡ 0) × (cell s (presenceCell 2 2 1) ≡ 0)

@@ -15,10 +15,14 @@ use Rattle.definitions.specs.Plan.{Plan}
 use Rattle.definitions.specs.Outcome.{planRun, clearWelfare}
 use Rattle.definitions.specs.Settle.{words, wordsFrom, digitsFrom, wholeOf, numbersOf, unreadable, refused, readable, settleInput, decimalTo, decimal, decimalZ, bidLine, flowLine, priceLine, welfareLine, bidLines, flowLines, priceLines, listing, refusedText, unreadableText, inputText, settleText}
 
--- example 2; blanks around and -0; then texts in this order: `007 9 x`, `999 1 x`, `999 1x`, `999 -1`, `999`, ``, `0 1 5 x`, `0 1`, `0 1 2147483648`, `0 1 --3`, `0 1 +3`, `0 1 -`, `0 1(tab)0`, `0 1 -2147483648`
+-- example 2 is read
+pub read-two : settleInput textTwo ≡ readable bookTwo
+unfolding textTwo bookTwo settleInput words wordsFrom wholeOf digitsFrom numbersOf
+read-two = refl
+
+-- blanks around and -0; then texts in this order: `007 9 x`, `999 1 x`, `999 1x`, `999 -1`, `999`, ``, `0 1 5 x`, `0 1`, `0 1 2147483648`, `0 1 --3`, `0 1 +3`, `0 1 -`, `0 1(tab)0`, `0 1 -2147483648`
 inputs :
-    settleInput textTwo
-    ∷ settleInput (32 ∷ 10 ∷ 48 ∷ 32 ∷ 49 ∷ 10 ∷ 45 ∷ 48 ∷ 32 ∷ [])
+    settleInput (32 ∷ 10 ∷ 48 ∷ 32 ∷ 49 ∷ 10 ∷ 45 ∷ 48 ∷ 32 ∷ [])
     ∷ settleInput (48 ∷ 48 ∷ 55 ∷ 32 ∷ 57 ∷ 32 ∷ 120 ∷ [])
     ∷ settleInput (57 ∷ 57 ∷ 57 ∷ 32 ∷ 49 ∷ 32 ∷ 120 ∷ [])
     ∷ settleInput (57 ∷ 57 ∷ 57 ∷ 32 ∷ 49 ∷ 120 ∷ [])
@@ -34,8 +38,7 @@ inputs :
     ∷ settleInput (48 ∷ 32 ∷ 49 ∷ 9 ∷ 48 ∷ [])
     ∷ settleInput (48 ∷ 32 ∷ 49 ∷ 32 ∷ 45 ∷ 50 ∷ 49 ∷ 52 ∷ 55 ∷ 52 ∷ 56 ∷ 51 ∷ 54 ∷ 52 ∷ 56 ∷ [])
     ∷ []
-    ≡ readable bookTwo
-    ∷ readable (book 0 1 [] (pos 0 ∷ []))
+    ≡ readable (book 0 1 [] (pos 0 ∷ []))
     ∷ refused (refuse 2 0)
     ∷ refused (refuse 1 0)
     ∷ unreadable
@@ -51,13 +54,13 @@ inputs :
     ∷ unreadable
     ∷ readable (book 0 1 [] (negℤ (pos 2147483648) ∷ []))
     ∷ []
-unfolding textTwo bookTwo settleInput words wordsFrom wholeOf digitsFrom numbersOf
+unfolding settleInput words wordsFrom wholeOf digitsFrom numbersOf
 inputs = refl
 
 -- the listing of example 2, in full
-listed : listing 2 2 (pos 3 ∷ pos 3 ∷ pos 0 ∷ pos 3 ∷ pos 0 ∷ pos 0 ∷ pos 20 ∷ pos 1 ∷ pos 0 ∷ pos 0 ∷ []) (pos 30) ≡ printedTwo
+pub listed-two : listing 2 2 (pos 3 ∷ pos 3 ∷ pos 0 ∷ pos 3 ∷ pos 0 ∷ pos 0 ∷ pos 20 ∷ pos 1 ∷ pos 0 ∷ pos 0 ∷ []) (pos 30) ≡ printedTwo
 unfolding printedTwo listing bidLines flowLines priceLines joinTo bidLine flowLine priceLine welfareLine decimalZ decimal decimalTo
-listed = refl
+listed-two = refl
 
 -- negative numbers
 negatives : priceLine 4 (negℤ (pos 30000)) (pos 1) ∷ welfareLine (negℤ (pos 125829120000)) ∷ refusedText 15 4095 ∷ []

@@ -41,8 +41,8 @@ eqZ (negsuc a) (negsuc b) = eqb a b
 abbrev pub reading : ℕ → ℤ
 reading x = cond (ltb greatestPositive x) (pos x -ℤ pos modulus) (pos x)
 
--- "a negative number v is written as v + p, in results too"; p and what lies above it stay as they are, below −p the difference cut off
--- at 0 is 0, and no accepted book has such a number
+-- "a negative number v is written as v + p, in results too"; p and every number above it stay, every number below −p becomes 0: no accepted
+-- book has such a number
 abbrev pub residue : ℤ → ℕ
 residue (pos v) = v
 residue (negsuc v) = modulus - suc v

@@ -1,4 +1,4 @@
--- The books of document 01's 'Proved examples', 1 to 7. "Bids are written (pool, price, quantity)."
+-- The books of document 01's 'Proved examples', 1 to 7, and example 2 as it is read and printed. "Bids are written (pool, price, quantity)."
 use Prim.Native.Nat.{ℕ}
 use mathlib.Core.List.{List, [], _∷_}
 use lib.IntN.{pos, negℤ}

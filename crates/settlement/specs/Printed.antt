@@ -14,6 +14,7 @@ use Rattle.definitions.specs.Calls.{AcceptedBook}
 use Rattle.definitions.specs.Outcome.{resultOf, clearingResults, planRun, clearWelfare}
 use Rattle.definitions.specs.Settle.{readable, settleInput, inputText, settleText, listing}
 use Rattle.definitions.specs.Settle as settle
+use Rattle.definitions.proofs.SettleFacts.{read-two, listed-two}
 use Rattle.opening.specs.Opened.{opened-outcome}
 use Rattle.plan.specs.Plan.{plan}
 use Rattle.outcome.specs.PlanClears.{plan-outcome}
@@ -43,10 +44,6 @@ printed-best text B read accepted =
 
 -- ---- example 2
 
-read-two : settleInput textTwo ≡ readable bookTwo
-unfolding textTwo bookTwo settleInput settle.words settle.wordsFrom settle.wholeOf settle.digitsFrom settle.numbersOf
-read-two = refl
-
 -- an entry of equal lists
 at : {A : Type 0} {xs ys : List A} (i : ℕ) (d : A) → xs ≡ ys → getD xs i d ≡ getD ys i d
 at i d e = ap (λ xs. getD xs i d) e
@@ -62,9 +59,10 @@ two-results c best permitted =
     rw (at 0 0 amounts, at 1 0 amounts, at 0 0 flows, at 1 0 flows, at 2 0 flows, at 3 0 flows, at 0 missing prices, at 1 missing prices) refl
 
 pub example-printed : settleText plan textTwo ≡ printedTwo
-unfolding bookTwo printedTwo listing settle.bidLines settle.flowLines settle.priceLines joinTo settle.bidLine settle.flowLine settle.priceLine settle.welfareLine settle.decimalZ settle.decimal settle.decimalTo
+unfolding bookTwo
 example-printed =
     let two = proved-examples .two in
     let printed = printed-best textTwo bookTwo read-two (two .accepted) in
     printed .lines
     ∙ ap₂ (listing 2 2) (two-results (printed .clearing) (printed .best) (printed .permitted)) (two .worth (printed .clearing) (printed .best))
+    ∙ listed-two
