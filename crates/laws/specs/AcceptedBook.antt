@@ -260,6 +260,19 @@ books-sound n m bids positive pools = record {
         go (less l) = getD-replicate (m * m) (a * m + b) (pos 0) (pos 0) l
         go (more l) = List·getD-eq-default (replicate (m * m) (pos 0)) (pos 0) (omega (arith, length-replicate (m * m) (pos 0)))
 
--- what is shown of all accepted books of n bids and m pools is empty for no counts
-pub books-exist : (n m : ℕ) → n ≤ bidLimit → 0 < m → m ≤ poolLimit → AcceptedBook (bookOf n m)
-books-exist n m bids positive pools = sound-accepted (bookOf n m) (books-sound n m bids positive pools)
+-- an accepted book of n bids and m pools
+pub record AcceptedBookOf (n m : ℕ) : Type 0 where
+  pub given : Book
+  pub bids : given .n ≡ n
+  pub pools : given .m ≡ m
+  pub accepted : AcceptedBook given
+
+-- so what is shown of all accepted books of n bids and m pools is empty for no counts
+pub books-exist : (n m : ℕ) → n ≤ bidLimit → 0 < m → m ≤ poolLimit → AcceptedBookOf n m
+unfolding bookOf
+books-exist n m bids positive pools = record {
+  given = bookOf n m;
+  bids = refl;
+  pools = refl;
+  accepted = sound-accepted (bookOf n m) (books-sound n m (omega arith) (omega arith) (omega arith));
+}
