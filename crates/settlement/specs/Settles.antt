@@ -1,4 +1,5 @@
--- What settling gives on a sheet of 4,096 cells, with room for the text, is what document 01 has printed (`settled-over`, `settled-first`).
+-- What settling gives on a sheet of 4,096 cells, with room for the text, is what document 01 has printed (`settled-over`, `settled-first`), also
+-- where the text was read in pieces (`settles`).
 use Prim.Native.Nat.{ℕ, _≤_}
 use mathlib.Core.Path.{_≡_, refl, sym, ap, _∙_}
 use mathlib.Core.Bool.{Bool, true, false}
@@ -6,15 +7,18 @@ use mathlib.Core.List.{List}
 use native.Mathlib.Omega.{arith}
 use lib.Dec.{leb}
 use lib.ListN.{length, take, drop, length-append, length-drop}
+use lib.IntN.{ℤ}
 use lib.Seq.{take-at, length-take-le}
 use borrow.Author.Tests.{le-leb, leb-true}
 use Rattle.definitions.specs.Limits.{cellCount}
 use Rattle.definitions.specs.Answers.{Refusal, none, refuse}
 use Rattle.definitions.specs.Book.{Book}
 use Rattle.definitions.specs.Calls.{sealRefusal}
-use Rattle.definitions.specs.Settle.{Input, unreadable, refused, readable, inputText, bookText, unreadableText}
+use Rattle.definitions.specs.Settle.{Input, unreadable, refused, readable, inputText, bookText, unreadableText, settleText}
 use Rattle.definitions.specs.Plan.{Plan, over}
 use Rattle.laws.specs.Sizes.{accepted-sizes}
+use Rattle.text.specs.Reading.{numberLimit}
+use Rattle.text.specs.Pieces.{joined, piecesRead, reads-pieces}
 use Rattle.listing.specs.Room.{listing-fits, refused-fits}
 use Rattle.listing.specs.Text.{textRoom, textSize, textSlice}
 use Rattle.settlement.specs.Settled.{settledText, settledSize, settledSlice}
@@ -85,3 +89,12 @@ pub settled-first : (plan : Plan) (input : Input) (cells r : ℕ) (out after : L
 settled-first plan input cells r out after size bytes e h =
     let o = settled-over plan input cells r out after size bytes e h in
     rw (o .0, o .1) (take-at (inputText plan input) (drop (length (inputText plan input)) out) (length (inputText plan input)) refl)
+
+-- the same of a text that was read in pieces, however it is cut
+pub settles : (plan : Plan) (stored : List ℤ) (pieces : List (List ℕ)) (cells : ℕ) (out : List ℕ)
+    → length stored ≡ numberLimit → cells ≡ cellCount → textRoom ≤ length out
+    → let input = piecesRead stored pieces in
+    take (settledSize plan input cells (length out)) (settledSlice plan input cells out) ≡ settleText plan (joined pieces)
+unfolding settleText
+settles plan stored pieces cells out l e h =
+    settled-first plan (piecesRead stored pieces) cells _ out _ refl refl e h ∙ ap (inputText plan) (reads-pieces stored pieces l)

@@ -5,4 +5,5 @@ pub mod Steps
 pub mod Values
 pub mod Stages
 pub mod Texts
+pub mod Pieces
 pub mod Broken

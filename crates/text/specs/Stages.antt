@@ -23,7 +23,6 @@ use Rattle.text.specs.declared.Stage.{Stage}
 use Rattle.text.specs.declared.Stage.the-variants as stage
 use Rattle.text.specs.declared.Counts.{Counts}
 use Rattle.text.specs.declared.Counts.the-variants as counts
-use Rattle.text.specs.declared.Input.the-variants as input
 use Rattle.text.specs.Reading.{numberLimit, countsOf, begun, takenBy, placeFor, storedAt, answerOf, inputFor}
 use Rattle.text.specs.Values.{endedFor}
 

@@ -92,7 +92,7 @@ noneStored = replicate numberLimit (pos 0)
 abbrev pub wholeRead : (before : List ℤ) (text : List ℕ) → Reading
 wholeRead before text = wordEnded (fed (reading startReader before) text)
 
--- it is what document 01 says of it; by `fed-append` it may be fed in pieces, however it is cut
+-- it is what document 01 says of it
 pub reads : (before : List ℤ) (text : List ℕ) → length before ≡ numberLimit → let read = wholeRead before text in inputFor (answerOf (read .reader .stage)) (read .numbers) ≡ settleInput text
 unfolding settleInput words wordFrom finished
 reads before text l = reads-from text [] stage.First before tt l
