@@ -15,7 +15,7 @@ use Rattle.definitions.specs.Plan.{Plan, Written, writeRefusal, writeCounts, wr
 use Rattle.plan.specs.Plan.{plan}
 use Rattle.writer.specs.Walk.{Reply, goesOn, Walk, sentBefore, stopAt, afterCall, walk, replyOf, writerReply, Roomy}
 use Rattle.writer.specs.Calls.{counts-accepted, slice-accepted}
-use Rattle.writer.specs.Sequence.{call-accepted, moves-within, nothing-left, slice-left, PlanRun, walk-accepted, stops-at-end, enough-slices, walk-stops, plan-sent, plan-run}
+use Rattle.writer.specs.Sequence.{call-accepted, moves-within, none-only-at-end, nothing-left, slice-left, PlanRun, walk-accepted, stops-at-end, enough-slices, walk-stops, plan-sent, plan-run}
 use Rattle.host.specs.Calls.{total-passes, bytes-pass, bytes-given}
 use Rattle.host.specs.Numbers.{held, countsHeld, total-read-back, counts-read-back}
 
@@ -29,6 +29,7 @@ pub record RightLengths (lent : Lent) : Type 0 where
   pub room : 8 ≤ length (lent .bytes)
   pub numbers : length (lent .out) ≡ 24
 
+-- every call's slices have these lengths
 abbrev pub AllRight : List Lent → Type 0
 AllRight [] = Unit {0}
 AllRight (lent ∷ more) = RightLengths lent × AllRight more
@@ -84,6 +85,11 @@ module _ (n m : ℕ) (counts : countsRefusal n m ≡ none) where
         ap₂ (λ (number : ℕ) (given : Written). replyOf number given (bytesSlice plan n m at (lent .bytes) (length (lent .out))))
         (ap numberOf (passes ∙ sym writing)) same-counts
         ∙ ap (replyOf (numberOf (writeRefusal plan n m at (length (lent .bytes)))) (writeCounts plan n m at (length (lent .bytes)))) same-slice
+
+    -- a call at a position of the plan gives no orders at its end only
+    pub host-none-only-at-end : hostReply plan n m at lent .orders ≡ 0 → at ≡ length (plan n m)
+    host-none-only-at-end e =
+        none-only-at-end n m counts at (length (lent .bytes)) within (right .room) (ap (λ (r : Reply). r .orders) (sym same-reply) ∙ e)
 
   pub same-walk : (lents : List Lent) (at : ℕ) → AllRight lents → at ≤ length (plan n m)
       → walk (hostReply plan n m) lents at ≡ walk (writerReply plan n m) (byteSlices lents) at

@@ -1,3 +1,4 @@
--- Laws that the proofs cite.
+-- Laws that the proofs cite, and computed facts about a step.
 pub mod ProductBits
 pub mod KindResult
+pub mod StepFacts

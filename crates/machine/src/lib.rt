@@ -195,7 +195,7 @@ fn step_within(sheet: &mut [u32], order: Order)
 }
 
 // One order on a sheet of 4,096 cells: it runs if it is the machine's (its cells below 4,096, its constant below p) and
-// the cells that it reads hold residues. Any other order, and any on another sheet, leaves the sheet as it is.
+// the cells that it reads hold residues. Any other order, and any order on a slice of another length, leaves the slice as it is.
 pub fn step(sheet: &mut [u32], order: Order)
     ensures { λ _. ⌜ now (sheet .exit) ≡ stepped (now (sheet .entry)) order ⌝ }
 {

@@ -1,17 +1,19 @@
--- From an accepted book's sealed sheet the plan leaves document 01's outcome: the best clearing with permitted flows and prices (`plan-outcome`).
-use mathlib.Core.Path.{sym, _∙_}
+-- From an accepted book's sealed sheet the plan leaves document 01's outcome: the best clearing with permitted flows and prices (`plan-outcome`). So the
+-- sheet that one run leaves by computation is an outcome (`example-outcome`).
+use mathlib.Core.Path.{refl, sym, subst, _∙_}
 use mathlib.Core.List.{List}
 use Prim.Native.Nat.{ℕ}
 use Rattle.definitions.specs.Book.{Book}
 use Rattle.definitions.specs.Sheet.{sealedSheet}
 use Rattle.definitions.specs.Clearing.{Best, Permitted}
 use Rattle.definitions.specs.Machine.{runOf}
-use Rattle.definitions.specs.Calls.{AcceptedBook}
+use Rattle.definitions.specs.Calls.{AcceptedBook, sealRefusal, bidsRefusal, capacitiesRefusal, rowRefusal, firstFrom}
 use Rattle.definitions.specs.Outcome.{Outcome, resultOf, planRun}
 use Rattle.laws.specs.AcceptedBook.{Sound, accepted-sound}
 use Rattle.theory.specs.FlowOrder.{FirstFlows}
 use Rattle.theory.specs.ClosedBest.{closed-clearing, closed-price}
 use Rattle.plan.specs.Plan.{plan}
+use Rattle.plan.specs.AnExample.{threePools, threePoolsCleared, example-run}
 use Rattle.plan.specs.Cleared.{HoldsClearing, plan-clears}
 
 module _ (B : Book) (accepted : AcceptedBook B) where
@@ -43,3 +45,11 @@ module _ (B : Book) (accepted : AcceptedBook B) where
   pub plan-first-flows : FirstFlows B (resultOf B (planRun plan B))
   unfolding planRun
   plan-first-flows = clearing .2
+
+three-pools-accepted : AcceptedBook threePools
+unfolding sealRefusal bidsRefusal capacitiesRefusal rowRefusal firstFrom
+three-pools-accepted = refl
+
+pub example-outcome : Outcome threePools threePoolsCleared
+unfolding planRun
+example-outcome = subst (Outcome threePools) example-run (plan-outcome threePools three-pools-accepted)
