@@ -146,18 +146,23 @@ def roots(modules):
         for path in [main] + [f'crates/{crate}/src/{name}.rt' for name in inner]:
             found |= Imports(code_lines(path)).cited(contracts(path, program))
     documents = read('docs/DEMANDS.md').split('## How it is proved')[0] + read('docs/SPECIFICATION.md').split('## Beside the definitions')[0]
-    named = set(re.findall(r'`([a-z][a-z0-9]*(?:-[a-z0-9]+)+)`', documents))
+    # a law by its name, a word without a hyphen too; a word of the documents that is no law names a definition or something of the code
+    words = set(re.findall(r'`([a-z][a-z0-9]*(?:-[a-z0-9]+)*)`', documents))
     # a record's fields are stated with it; facts about the definitions alone cite nothing beside them
     known = {field for _, _, fields, _ in modules.values() for field in fields}
     known |= {name for path in glob.glob('crates/definitions/proofs/*.antt') for name in declarations(path)[0]}
+    public = set()
     for (crate, module), (declared, _, _, imports) in modules.items():
-        for name in named - known:
-            if name in declared and declared[name].public:
-                found |= imports.cited(declared[name].statement()) - {(crate, module, name)}
-    public = {name for declared, _, _, _ in modules.values() for name in declared if declared[name].public}
-    unknown = named - known - public
+        for name, found_here in declared.items():
+            if not found_here.public:
+                continue
+            public.add(name)
+            if name in words - known and not found_here.is_definition:
+                found |= imports.cited(found_here.statement()) - {(crate, module, name)}
+    code = {token for path in glob.glob('crates/**/*.rt', recursive=True) for token in re.findall(r'\w+', '\n'.join(code_lines(path)))}
+    unknown = words - known - public - code - set(os.listdir('crates'))
     for name in sorted(unknown):
-        print(f'the documents name `{name}`, which no specification declares')
+        print(f'the documents name `{name}`, which no specification and no code declares')
     return found, bool(unknown)
 
 

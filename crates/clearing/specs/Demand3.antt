@@ -21,8 +21,8 @@ use Rattle.laws.specs.Refusal.{first-left}
 use Rattle.laws.specs.AcceptedBook.{accepted-sound}
 use Rattle.theory.specs.BestClearing.{best-welfare, welfare-of-best}
 use Rattle.runner.specs.Runs.{RunsAs, orders-bytes-run}
-use Rattle.plan.specs.Plan.{plan, plan-length, plan-bound}
-use Rattle.plan.specs.List.{plan-orders}
+use Rattle.plan.specs.Plan.{plan}
+use Rattle.plan.specs.List.{plan-orders, plan-length-limit}
 use Rattle.plan.specs.Asking.{asked-at-end}
 use Rattle.plan.specs.Collected.{collected-plan}
 use Rattle.outcome.specs.PlanClears.{plan-outcome}
@@ -107,5 +107,5 @@ demand-3 A B a b n m =
       second-book = of-B;
       same-bytes = ap ordersBytes (sym (of-B .is-plan));
       same-count = of-A .count ∙ sym (of-B .count);
-      limit = omega (arith, plan-length (A .n) (A .m) (sound .pools-positive), plan-bound (A .n) (A .m) (sound .pools-positive) (sound .pools));
+      limit = omega (arith, plan-length-limit (A .n) (A .m) (sound .bids) (sound .pools-positive) (sound .pools));
     }

@@ -4,7 +4,7 @@ use mathlib.Core.Path.{_≡_, refl, ap}
 use mathlib.Core.Logic.{_⊎_, inl, inr}
 use mathlib.Core.List.{List, _++_}
 use native.Mathlib.Omega.{arith}
-use native.Mathlib.Nat.{eq-or-lt-of-le, suc-inj, suc-mul, mul-le-mul-right}
+use native.Mathlib.Nat.{eq-or-lt-of-le, suc-inj}
 use native.Mathlib.Numerals.{add-one}
 use lib.ListN.{length, length-append}
 use lib.IntN.{ℤ}
@@ -28,10 +28,6 @@ rowLines n m a results = joinTo m (flowAt n m a results)
 
 abbrev pub priceAt : (n m : ℕ) → List ℤ → ℕ → List ℕ
 priceAt n m results p = priceLine (p + 1) (resultAt results (n + m * m + 2 * p)) (resultAt results (n + m * m + 2 * p + 1))
-
--- row a, column b of a table of m rows
-pub in-table : (m a b : ℕ) → a < m → b < m → a * m + b < m * m
-in-table m a b l r = omega (arith, suc-mul a m, mul-le-mul-right {m = suc a} m l)
 
 pub lines-next : (k : ℕ) (line : ℕ → List ℕ) → joinTo (k + 1) line ≡ joinTo k line ++ line k
 unfolding joinTo

@@ -5,8 +5,9 @@ use mathlib.Core.Path.{_≡_, refl, ap, ap₂, _∙_}
 use mathlib.Core.Bool.{Bool, true, false, cond}
 use mathlib.Core.List.{List, [], _∷_, _++_, map, map-append}
 use native.Mathlib.Omega.{arith}
-use native.Mathlib.Nat.{mul-le-mul, mul-le-mul-right, suc-mul}
+use native.Mathlib.Nat.{mul-le-mul}
 use lib.ListN.{length, take, drop}
+use lib.Arith.{digits-lt}
 use lib.IntN.{ℤ, pos, natAbs}
 use lib.Signed.{ltZ}
 use lib.Seq.{drop-cons, drop-drop, take-add}
@@ -105,15 +106,11 @@ module _ (B : Book) (accepted : AcceptedBook B) (s : List ℕ) (left : Outcome B
   abbrev flows : ℕ
   flows = firstResult (B .n) (B .m) + B .n
 
-  -- an entry of the capacity table is one of m × m
-  entry-within : (a b : ℕ) → a < B .m → b < B .m → a * B .m + b < B .m * B .m
-  entry-within a b l r = let h = mul-le-mul-right {m = suc a} (B .m) l in omega (arith, suc-mul a (B .m))
-
   flow-read : (a b : ℕ) → a < B .m → b < B .m → readings s (flows + a * B .m + b * 1) 1 ≡ pos (resultOf B s .flow a b) ∷ []
   flow-read a b l r =
       let e : flows + a * B .m + b * 1 ≡ flowCell (B .n) (B .m) a b = omega arith in
       rw e
-      (one-read s (flowCell (B .n) (B .m) a b) (on-sheet _ (omega (arith, entry-within a b l r)))
+      (one-read s (flowCell (B .n) (B .m) a b) (on-sheet _ (omega (arith, digits-lt l r)))
       ∙ ap (λ (z : ℤ). z ∷ [])
       (reads-itself _ (let h = left .best .feasible .flows a b l r in let k = ok .capacity-small a b l r in omega arith)))
 

@@ -1,5 +1,6 @@
 // Runs the plan bytes of standard input on an empty sheet, and prints the count of orders and every cell that is not 0, or the refusal.
-// A part of a plan is never run: where more is left to read than the room takes, or a read fails, `not read whole` is printed.
+// A part of a plan is not run: where more is left to read than the room takes, or a read fails, `not read whole` is printed. That `gather` says so
+// is tested, and in no contract: none can say what a read gives.
 ghost use Rattle.io.specs.Counts.{Counts};
 use definitions::Limits;
 use definitions::is_accepted;
@@ -38,7 +39,7 @@ fn print_cells(sheet: &[u32; Limits::CELLS]) {
     }
 }
 
-// How many bytes were read, and whether they are all: each read is asked whether it failed, and the end is one that gives nothing.
+// How many bytes were read, and whether they are all: an answer below 0 is a failed read, and 0 is the end.
 struct Gathered {
     size: usize,
     whole: bool,

@@ -57,7 +57,7 @@ fn read_text(numbers: &mut [i32; Reader::NUMBERS]) -> Input
     reader.break_off(numbers)
 }
 
-// Writes what is to be printed for the text that was read at the start of out, and gives its size.
+// Writes, at the start of out, what is to be printed for the text that was read, and gives its size.
 fn list_text(input: Input, numbers: &[i32; Reader::NUMBERS], out: &mut [u8; Listing::ROOM]) -> usize
     ensures text { λ r. ⌜ take r (now (out .exit)) ≡ inputText plan (inputFor input (now (numbers .entry))) ⌝ }
     ensures counted { λ r. ⌜ Counts r (now (out .exit)) ⌝ }

@@ -110,7 +110,7 @@ fn settle_tables(n: usize, m: usize, numbers: &[i32], sheet: &mut [u32], out: &m
     settle_book(n, m, &numbers[..bids], &numbers[bids..all], sheet, out)
 }
 
-// Writes what settle prints for a text that was read at the start of out, and gives its size. The sheet may hold anything.
+// Writes, at the start of out, what settle prints for the text that was read, and gives its size. The sheet may hold anything.
 pub fn settle(
     input: Input,
     numbers: &[i32; Reader::NUMBERS],

@@ -6,11 +6,12 @@ use lib.ListN.{length, getD}
 use lib.IntN.{pos}
 use mir.Syntax.{w32}
 use mir.Val.{toZ, ofZ}
+use lib.Arith.{digits-lt}
 use borrow.Author.Needs.{scaled-fits}
 use Rattle.definitions.specs.Arithmetic.{joinTo}
 use Rattle.definitions.specs.Settle.{flowLine}
 use Rattle.laws.specs.SignedTests.{back}
-use Rattle.listing.specs.Lines.{flowAt, rowLines, in-table, no-lines, line-room, line-put, all-lines}
+use Rattle.listing.specs.Lines.{flowAt, rowLines, no-lines, line-room, line-put, all-lines}
 use Rattle.listing.specs.Put.{Put, same-bytes, same-room, length-kept}
 use Rattle.listing.proofs.put_row.Statement.{statement}
 use Rattle.listing.proofs.put_row.Tie as tie
@@ -28,7 +29,7 @@ loop-holds c = let s = c .before .args in (omega arith, no-lines (s .out .now) (
 inside : (c : tie.In-loop Inv-loop μ-loop) → let s = c .before .before .before in s .args .n + (s .args .a * s .args .m + c .before .loop .b) < length (s .args .results .now)
 inside c =
     let s = c .before .before .before in
-    omega (arith, in-table (s .args .m) (s .args .a) (c .before .loop .b) (s .pre .0) (c .loop-test .taken), s .pre .1)
+    omega (arith, digits-lt {q = s .args .a} {r = c .before .loop .b} (s .pre .0) (c .loop-test .taken), s .pre .1)
 
 mul-flow : tie.Need-mul-flow Inv-loop μ-loop
 mul-flow c = omega (arith, inside c)

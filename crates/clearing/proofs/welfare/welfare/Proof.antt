@@ -48,8 +48,7 @@ shared-slice-copy-out-price c = omega arith
 mul-price : tie.Need-mul-price Inv-loop μ-loop
 mul-price c =
     let s = c .before .before .before in
-    let h : bidNumbers * c .before .loop .i + 1 < length (s .args .bids .now) = omega arith in
-    scaled-fits _ _ 4 h (s .good .0 .1)
+    scaled-fits _ (length (s .args .bids .now)) 4 (omega arith) (s .good .0 .1)
 
 add-quantity : tie.Need-add-quantity Inv-loop μ-loop
 add-quantity c = omega arith
@@ -57,8 +56,7 @@ add-quantity c = omega arith
 mul-quantity : tie.Need-mul-quantity Inv-loop μ-loop
 mul-quantity c =
     let s = c .before .before .before .before in
-    let h : bidNumbers * c .before .before .loop .i + 2 < length (s .args .bids .now) = omega arith in
-    scaled-fits _ _ 4 h (s .good .0 .1)
+    scaled-fits _ (length (s .args .bids .now)) 4 (omega arith) (s .good .0 .1)
 
 shared-slice-copy-out-quantity : tie.Need-shared-slice-copy-out-quantity Inv-loop μ-loop
 shared-slice-copy-out-quantity c = omega arith

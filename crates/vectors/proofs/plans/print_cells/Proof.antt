@@ -3,10 +3,6 @@ use Prim.Native.Nat.{_≤_, _-_}
 use borrow.Author.Needs.{needs}
 use Rattle.vectors.proofs.plans.print_cells.Statement.{statement}
 use Rattle.vectors.proofs.plans.print_cells.Tie as tie
-use Rattle.vectors.proofs.plans.print_cells.Reads as reads
-use Rattle.vectors.proofs.plans.print_cells.Lts as lts
-use Rattle.vectors.proofs.plans.print_pair.Reads as print-pair-reads
-use Rattle.vectors.proofs.plans.wide.Reads as wide-reads
 
 abbrev Inv-loop : tie.InvT-loop
 Inv-loop sheet c₀ t3 c = c ≤ 4096
