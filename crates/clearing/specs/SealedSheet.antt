@@ -27,8 +27,8 @@ module _ (B : Book) (sound : Sound B) where
 
   bid-below : (c : ℕ) → c < bidNumbers * B .n → cell (sealedSheet B) c < modulus
   bid-below c l =
-      let e : bidNumbers * (c / 3) + c % 3 ≡ c = omega arith in
-      let h : natAbs (getD (B .bids) c (pos 0)) ≤ greatestPositive = rw e at (bid-size (c / 3) (c % 3) (omega arith) (omega arith)) in
+      let e : bidNumbers * (c / bidNumbers) + c % bidNumbers ≡ c = omega arith in
+      let h : natAbs (getD (B .bids) c (pos 0)) ≤ greatestPositive = rw e at (bid-size (c / bidNumbers) (c % bidNumbers) (omega arith) (omega arith)) in
       omega (arith, sealed-bid B c (omega (arith, sound .bid-table)), residue-below (getD (B .bids) c (pos 0)) h)
 
   capacity-below : (k : ℕ) → k < B .m * B .m → cell (sealedSheet B) (length (B .bids) + k) < modulus

@@ -4,7 +4,7 @@ ghost use mathlib.Core.List.{List};
 ghost use Prim.Native.Nat.{ℕ, _+_, _*_, _<_, _≤_};
 ghost use lib.ListN.{length, getD};
 ghost use lib.IntN.{ℤ, pos, natAbs};
-ghost use Rattle.definitions.specs.Limits.{bidLimit, priceLimit, quantityLimit, bidNumbers};
+ghost use Rattle.definitions.specs.Limits.{bidLimit, priceLimit, quantityLimit, bidNumbers, pricePlace};
 ghost use Rattle.definitions.specs.Book.{book};
 ghost use Rattle.definitions.specs.Clearing as clearing;
 ghost use Rattle.clearing.specs.Welfare.{signedValue};
@@ -26,7 +26,7 @@ fn signed_value(price: i32, quantity: i32, accepted: u32) -> i64
 pub fn welfare(bids: &[i32], accepted: &[u32]) -> i64
     requires { ⌜ length (now bids) ≡ bidNumbers * length (now accepted) ⌝ }
     requires { ⌜ length (now accepted) ≤ bidLimit ⌝ }
-    requires { ⌜ ((i : ℕ) → i < length (now accepted) → natAbs (getD (now bids) (bidNumbers * i + 1) (pos 0)) ≤ priceLimit) ⌝ }
+    requires { ⌜ ((i : ℕ) → i < length (now accepted) → natAbs (getD (now bids) (bidNumbers * i + pricePlace) (pos 0)) ≤ priceLimit) ⌝ }
     requires { ⌜ ((i : ℕ) → i < length (now accepted) → getD (now accepted) i 0 ≤ quantityLimit) ⌝ }
     ensures { λ r. ⌜ ((m : ℕ) (capacities : List ℤ) → r ≡ clearing.welfare (book (length (now (accepted .entry))) m (now (bids .entry)) capacities) (λ i. getD (now (accepted .entry)) i 0)) ⌝ }
 {
@@ -34,8 +34,8 @@ pub fn welfare(bids: &[i32], accepted: &[u32]) -> i64
     let mut i = 0;
     while i < accepted.len() {
         let at = Limits::BID_NUMBERS * i;
-        let price = bids[at + 1];
-        let quantity = bids[at + 2];
+        let price = bids[at + Limits::PRICE_PLACE];
+        let quantity = bids[at + Limits::QUANTITY_PLACE];
         let x = accepted[i];
         let value = signed_value(price, quantity, x);
         total = total + value;

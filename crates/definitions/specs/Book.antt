@@ -6,7 +6,7 @@ use mathlib.Core.List.{List}
 use lib.ListN.{getD}
 use lib.IntN.{ℤ, pos, natAbs}
 use lib.Signed.{ltZ}
-use Rattle.definitions.specs.Limits.{bidNumbers}
+use Rattle.definitions.specs.Limits.{bidNumbers, pricePlace, quantityPlace}
 use Rattle.definitions.specs.Arithmetic.{eqZ}
 
 -- "A book is n, m and the two tables"
@@ -26,11 +26,11 @@ pool B i = getD (B .bids) (bidNumbers * i) (pos 0)
 
 -- "limit price"
 abbrev pub price : Book → ℕ → ℤ
-price B i = getD (B .bids) (bidNumbers * i + 1) (pos 0)
+price B i = getD (B .bids) (bidNumbers * i + pricePlace) (pos 0)
 
 -- "quantity"
 abbrev pub quantity : Book → ℕ → ℤ
-quantity B i = getD (B .bids) (bidNumbers * i + 2) (pos 0)
+quantity B i = getD (B .bids) (bidNumbers * i + quantityPlace) (pos 0)
 
 -- "positive buys"
 abbrev pub purchase : Book → ℕ → Bool

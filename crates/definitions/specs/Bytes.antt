@@ -11,11 +11,15 @@ use Rattle.definitions.specs.Answers.{Refusal, none, refuse, kindOf}
 
 -- ---- Writing
 
+-- how many numbers a group of seven bits has: "with 128 added on all but the last"
+abbrev pub groupSize : ℕ
+groupSize = 128
+
 -- "Each number .. is cut in groups of seven bits, lowest first, one to a byte, with 128 added on all but the last":
 -- the bytes of v, a number of at most g groups
 unfoldable pub groups : (g v : ℕ) → List ℕ
 groups zero v = []
-groups (suc g) v = cond (ltb v 128) (v ∷ []) ((v % 128 + 128) ∷ groups g (v / 128))
+groups (suc g) v = cond (ltb v groupSize) (v ∷ []) ((v % groupSize + groupSize) ∷ groups g (v / groupSize))
 
 -- a number below 2^32 has at most five groups
 abbrev pub mostGroups : ℕ
@@ -72,13 +76,13 @@ lastGroup first x = cond (first || ltb 0 x) (number x 1) bad
 abbrev pub moreGroups : ℕ → Number → Number
 moreGroups x short = short
 moreGroups x bad = bad
-moreGroups x (number v n) = number (x % 128 + 128 * v) (n + 1)
+moreGroups x (number v n) = number (x % groupSize + groupSize * v) (n + 1)
 
 -- a number of at most g groups at the head of some bytes
 unfoldable pub readGroups : (g : ℕ) (first : Bool) → List ℕ → Number
 readGroups zero first xs = bad
 readGroups (suc g) first [] = short
-readGroups (suc g) first (x ∷ xs) = cond (ltb x 128) (lastGroup first x) (moreGroups x (readGroups g false xs))
+readGroups (suc g) first (x ∷ xs) = cond (ltb x groupSize) (lastGroup first x) (moreGroups x (readGroups g false xs))
 
 -- reading at an offset: a refusal's number, or what was read and the offset after it
 pub data Read (A : Type 0) : Type 0 where
@@ -101,9 +105,13 @@ abbrev pub below : (limit refusal : ℕ) → Read ℕ → Read ℕ
 below limit refusal (fault k) = fault k
 below limit refusal (found v next) = cond (ltb v limit) (found v next) (fault refusal)
 
+-- "its kind, 0 to 5"
+abbrev pub kindCount : ℕ
+kindCount = 6
+
 -- 10, "kind above 5"
 unfoldable pub kindAt : List ℕ → (at : ℕ) → Read ℕ
-kindAt s at = below 6 10 (numberAt s at)
+kindAt s at = below kindCount 10 (numberAt s at)
 
 -- 12, "a cell of 4,096 or more"
 unfoldable pub cellAt : List ℕ → (at : ℕ) → Read ℕ

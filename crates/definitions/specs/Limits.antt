@@ -36,3 +36,14 @@ greatestPositive = 1073741823
 -- "A bid is three signed 32-bit numbers"
 abbrev pub bidNumbers : ℕ
 bidNumbers = 3
+
+-- "pool .., limit price .., quantity": the places of the last two; the pool comes first
+abbrev pub pricePlace : ℕ
+pricePlace = 1
+
+abbrev pub quantityPlace : ℕ
+quantityPlace = 2
+
+-- "for each pool two cells, its price and a presence cell"
+abbrev pub poolResults : ℕ
+poolResults = 2

@@ -1,6 +1,6 @@
 -- The plan as its callers meet it: asking at a position, the total, the writer and the two forms for the C host (document 01, 'The plan').
 -- Which orders the plan lists is left open: `plan` is the list of orders for each n and m.
-use Prim.Native.Nat.{ℕ, zero, suc, _+_, _-_, _/_, _%_}
+use Prim.Native.Nat.{ℕ, zero, suc, _+_, _*_, _-_, _/_, _%_}
 use mathlib.Core.Bool.{cond}
 use mathlib.Core.List.{List, [], _∷_, _++_}
 use lib.Dec.{ltb, leb, eqb}
@@ -67,9 +67,13 @@ unfoldable pub fitting : List Order → (room : ℕ) → ℕ
 fitting [] room = 0
 fitting (o ∷ os) room = cond (leb (length (orderBytes o)) room) (suc (fitting os (room - length (orderBytes o)))) 0
 
+-- "The longest order is 8 bytes."
+abbrev pub longestOrder : ℕ
+longestOrder = 8
+
 -- 14, "fewer than 8 bytes lent to the writer"
 abbrev pub roomRefusal : ℕ → Refusal
-roomRefusal room = cond (ltb room 8) (refuse 14 0) none
+roomRefusal room = cond (ltb room longestOrder) (refuse 14 0) none
 
 -- of the writer: "then 13, 14 .. in this order"
 unfoldable pub writeRefusal : Plan → (n m at room : ℕ) → Refusal
@@ -117,29 +121,37 @@ writeSlice plan n m at out =
 
 -- ---- The two forms for the C host
 
--- "8 bytes each, lowest byte first": k bytes of v
+-- "the numbers given go to a further lent slice, 8 bytes each"
+abbrev pub numberSize : ℕ
+numberSize = 8
+
+-- "24 for the writer's bytes, orders and next position"
+abbrev pub countsSize : ℕ
+countsSize = 3 * numberSize
+
+-- "lowest byte first": k bytes of v
 unfoldable pub lowestFirst : (k v : ℕ) → List ℕ
 lowestFirst zero v = []
 lowestFirst (suc k) v = v % 256 ∷ lowestFirst k (v / 256)
 
 -- "8 bytes for the total", and 3 for a slice of another length
 unfoldable pub totalRefusal : (n m out : ℕ) → Refusal
-totalRefusal n m out = first (countsRefusal n m) (lengthRefusal (eqb out 8))
+totalRefusal n m out = first (countsRefusal n m) (lengthRefusal (eqb out numberSize))
 
 -- the slice that takes the total, after the call
 unfoldable pub totalSlice : Plan → (n m : ℕ) → List ℕ → List ℕ
-totalSlice plan n m out = unless (totalRefusal n m (length out)) (lowestFirst 8 (length (plan n m))) out
+totalSlice plan n m out = unless (totalRefusal n m (length out)) (lowestFirst numberSize (length (plan n m))) out
 
--- "24 for the writer's bytes, orders and next position"
+-- of the plan's bytes, 1, 2, 3, 13, 14 in this order
 unfoldable pub bytesRefusal : Plan → (n m at room out : ℕ) → Refusal
 bytesRefusal plan n m at room out =
     first (countsRefusal n m)
-    (first (lengthRefusal (eqb out 24))
+    (first (lengthRefusal (eqb out countsSize))
     (first (positionRefusal (plan n m) at) (roomRefusal room)))
 
--- the three numbers, 8 bytes each
+-- the three numbers
 abbrev pub countBytes : Written → List ℕ
-countBytes w = lowestFirst 8 (w .bytes) ++ (lowestFirst 8 (w .orders) ++ lowestFirst 8 (w .next))
+countBytes w = lowestFirst numberSize (w .bytes) ++ (lowestFirst numberSize (w .orders) ++ lowestFirst numberSize (w .next))
 
 -- the slice that takes the plan's bytes, after the call
 unfoldable pub bytesSlice : Plan → (n m at : ℕ) → (bytes : List ℕ) (out : ℕ) → List ℕ

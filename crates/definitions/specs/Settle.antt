@@ -6,7 +6,7 @@ use lib.Dec.{ltb, eqb, leb}
 use lib.ListN.{length, getD, take, drop}
 use lib.IntN.{ℤ, pos, negsuc, negℤ}
 use lib.Signed.{ltZ}
-use Rattle.definitions.specs.Limits.{cellCount, bidNumbers}
+use Rattle.definitions.specs.Limits.{cellCount, bidNumbers, poolResults}
 use Rattle.definitions.specs.Arithmetic.{joinTo, within}
 use Rattle.definitions.specs.Book.{Book, book}
 use Rattle.definitions.specs.Answers.{Refusal, none, refuse, numberOf, placeOf}
@@ -215,7 +215,7 @@ flowLines n m results = joinTo m (λ a. joinTo m (λ b. flowLine (a + 1) (b + 1)
 -- the lines of all pools
 unfoldable pub priceLines : (n m : ℕ) → List ℤ → List ℕ
 priceLines n m results =
-    joinTo m (λ p. priceLine (p + 1) (resultAt results (n + m * m + 2 * p)) (resultAt results (n + m * m + 2 * p + 1)))
+    joinTo m (λ p. priceLine (p + 1) (resultAt results (n + m * m + poolResults * p)) (resultAt results (n + m * m + poolResults * p + 1)))
 
 -- the text printed for a cleared book, as for example 2
 unfoldable pub listing : (n m : ℕ) (results : List ℤ) (w : ℤ) → List ℕ

@@ -2,7 +2,7 @@
 use Prim.Native.Nat.{ℕ, _+_, _-_, _*_}
 use mathlib.Core.List.{List, _++_, map}
 use lib.ListN.{length, replicate}
-use Rattle.definitions.specs.Limits.{cellCount, bidNumbers}
+use Rattle.definitions.specs.Limits.{cellCount, bidNumbers, poolResults}
 use Rattle.definitions.specs.Arithmetic.{residue}
 use Rattle.definitions.specs.Book.{Book}
 
@@ -26,7 +26,7 @@ flowCell n m a b = firstResult n m + n + (a * m + b)
 
 -- "then for each pool two cells, its price"
 abbrev pub priceCell : (n m p : ℕ) → ℕ
-priceCell n m p = firstResult n m + n + m * m + 2 * p
+priceCell n m p = firstResult n m + n + m * m + poolResults * p
 
 -- "and a presence cell"
 abbrev pub presenceCell : (n m p : ℕ) → ℕ
@@ -34,7 +34,7 @@ presenceCell n m p = priceCell n m p + 1
 
 -- "all n + m × m + 2 × m result cells"
 abbrev pub resultCount : (n m : ℕ) → ℕ
-resultCount n m = n + m * m + 2 * m
+resultCount n m = n + m * m + poolResults * m
 
 -- "All later cells are scratch."
 abbrev pub firstScratch : (n m : ℕ) → ℕ

@@ -25,8 +25,15 @@ impl Limits {
     // The greatest residue that reads as itself.
     pub const POSITIVE: u32 = 1_073_741_823;
 
-    // How many numbers a bid has.
+    // How many numbers a bid has: its pool, its price and its quantity; the places of the last two.
     pub const BID_NUMBERS: usize = 3;
+
+    pub const PRICE_PLACE: usize = 1;
+
+    pub const QUANTITY_PLACE: usize = 2;
+
+    // How many results a pool has: its price and its presence.
+    pub const POOL_RESULTS: usize = 2;
 }
 
 // An order of the machine: its target cell d, then a constant or the two cells that it reads.

@@ -99,8 +99,8 @@ fn judge_bids(n: usize, m: usize, bids: &[i32]) -> Verdict
     while i < n {
         let at = Limits::BID_NUMBERS * i;
         let pool = bids[at];
-        let price = bids[at + 1];
-        let quantity = bids[at + 2];
+        let price = bids[at + Limits::PRICE_PLACE];
+        let quantity = bids[at + Limits::QUANTITY_PLACE];
         let verdict = bid_verdict(m, pool, price, quantity, i + 1);
         if !is_accepted(verdict) {
             return verdict;

@@ -8,6 +8,7 @@ use native.Mathlib.Nat.{eq-or-lt-of-le, suc-inj}
 use native.Mathlib.Numerals.{add-one}
 use lib.ListN.{length, length-append}
 use lib.IntN.{ℤ}
+use Rattle.definitions.specs.Limits.{poolResults}
 use Rattle.definitions.specs.Arithmetic.{joinTo}
 use Rattle.definitions.specs.Settle.{decimalZ, space, newline, bidLine, flowLine, priceLine, resultAt}
 use Rattle.listing.specs.Put.{Put, nothing, then, same-bytes, room-second}
@@ -27,7 +28,7 @@ unfoldable pub rowLines : (n m a : ℕ) → List ℤ → List ℕ
 rowLines n m a results = joinTo m (flowAt n m a results)
 
 abbrev pub priceAt : (n m : ℕ) → List ℤ → ℕ → List ℕ
-priceAt n m results p = priceLine (p + 1) (resultAt results (n + m * m + 2 * p)) (resultAt results (n + m * m + 2 * p + 1))
+priceAt n m results p = priceLine (p + 1) (resultAt results (n + m * m + poolResults * p)) (resultAt results (n + m * m + poolResults * p + 1))
 
 pub lines-next : (k : ℕ) (line : ℕ → List ℕ) → joinTo (k + 1) line ≡ joinTo k line ++ line k
 unfolding joinTo

@@ -185,7 +185,7 @@ fn put_prices(out: &mut [u8], at: usize, n: usize, m: usize, results: &[i32]) ->
     let mut end = at;
     let mut p = 0;
     while p < m {
-        let place = n + m * m + 2 * p;
+        let place = n + m * m + Limits::POOL_RESULTS * p;
         let price = results[place];
         let presence = results[place + 1];
         end = put_price(out, end, p + 1, price, presence);
@@ -228,7 +228,7 @@ fn can_list(n: usize, m: usize, results: usize, room: usize) -> bool
     if Limits::POOLS < m {
         return false;
     }
-    if results != n + m * m + 2 * m {
+    if results != n + m * m + Limits::POOL_RESULTS * m {
         return false;
     }
     Listing::ROOM <= room

@@ -32,7 +32,7 @@ fn result_count(n: usize, m: usize) -> usize
     requires { ⌜ m ≤ poolLimit ⌝ }
     ensures { λ r. ⌜ r ≡ resultCount n m ⌝ }
 {
-    n + m * m + 2 * m
+    n + m * m + Limits::POOL_RESULTS * m
 }
 
 // The lengths of the sheet and of the slice for the results: 3.

@@ -31,7 +31,9 @@ use text::Reader;
 use text::read;
 
 // How many results a book has at most.
-const RESULTS: usize = Limits::BIDS + Limits::POOLS * Limits::POOLS + 2 * Limits::POOLS;
+const RESULTS: usize = Limits::BIDS
+    + Limits::POOLS * Limits::POOLS
+    + Limits::POOL_RESULTS * Limits::POOLS;
 
 // Opens the results that a sheet holds and lists them with the welfare.
 fn list_results(
@@ -58,7 +60,7 @@ fn list_sheet(n: usize, m: usize, welfare: i64, sheet: &[u32], out: &mut [u8]) -
     ensures bytes { λ _. ⌜ now (out .exit) ≡ textSlice (leb textRoom (length (now (out .entry)))) (listing n m (openedResults n m (now (sheet .entry))) welfare) (now (out .entry)) ⌝ }
 {
     let mut results = [0i32; RESULTS];
-    let count = n + m * m + 2 * m;
+    let count = n + m * m + Limits::POOL_RESULTS * m;
     list_results(n, m, welfare, sheet, &mut results[..count], out)
 }
 
