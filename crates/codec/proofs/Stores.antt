@@ -9,10 +9,10 @@ use lib.ListN.{length, length-append}
 use lib.Seq.{sets}
 use Rattle.definitions.specs.declared.Order.{Order}
 use Rattle.definitions.specs.declared.Order.the-variants.{Constant, Sum, Difference, Product, Less, Equal}
+use Rattle.definitions.specs.declared.Parts.{Parts}
+use Rattle.definitions.specs.Answers.{partsOf}
 use Rattle.definitions.specs.Bytes.{numberBytes, numbersBytes, orderBytes}
 use Rattle.laws.specs.Write.{sets-append}
-use Rattle.codec.specs.declared.OrderNumbers.{OrderNumbers}
-use Rattle.codec.specs.Written.{fieldsOf}
 
 -- xs written at an offset, and ys behind them, are xs ++ ys written at that offset
 pub both : (out out₁ out₂ : List ℕ) (at next last : ℕ) (xs ys : List ℕ)
@@ -32,22 +32,22 @@ second-room at next xs ys out out₁ h e q = omega (arith, length-append xs ys)
 
 -- ---- an order by its numbers
 
-abbrev pub headBytes : OrderNumbers → List ℕ
+abbrev pub headBytes : Parts → List ℕ
 headBytes n = numberBytes (n .kind) ++ numberBytes (n .d)
 
-abbrev pub fieldsBytes : OrderNumbers → List ℕ
-fieldsBytes n = headBytes n ++ cond (eqb (n .kind) 0) (numberBytes (n .first)) (numberBytes (n .first) ++ numberBytes (n .second))
+abbrev pub partsBytes : Parts → List ℕ
+partsBytes n = headBytes n ++ cond (eqb (n .kind) 0) (numberBytes (n .k)) (numberBytes (n .a) ++ numberBytes (n .b))
 
 cells : (kind d a b : ℕ) → numbersBytes (kind ∷ d ∷ a ∷ b ∷ []) ≡ (numberBytes kind ++ numberBytes d) ++ (numberBytes a ++ numberBytes b)
 cells kind d a b =
     ap (λ (l : List ℕ). numberBytes kind ++ (numberBytes d ++ (numberBytes a ++ l))) (append-nil (numberBytes b))
     ∙ sym (append-assoc (numberBytes kind) (numberBytes d) (numberBytes a ++ numberBytes b))
 
-pub bytes-numbers : (o : Order) → orderBytes o ≡ fieldsBytes (fieldsOf o)
+pub bytes-parts : (o : Order) → orderBytes o ≡ partsBytes (partsOf o)
 unfolding orderBytes
-bytes-numbers (Constant d k) = ap (λ (l : List ℕ). numberBytes 0 ++ (numberBytes d ++ l)) (append-nil (numberBytes k)) ∙ sym (append-assoc (numberBytes 0) (numberBytes d) (numberBytes k))
-bytes-numbers (Sum d a b) = cells 1 d a b
-bytes-numbers (Difference d a b) = cells 2 d a b
-bytes-numbers (Product d a b) = cells 3 d a b
-bytes-numbers (Less d a b) = cells 4 d a b
-bytes-numbers (Equal d a b) = cells 5 d a b
+bytes-parts (Constant d k) = ap (λ (l : List ℕ). numberBytes 0 ++ (numberBytes d ++ l)) (append-nil (numberBytes k)) ∙ sym (append-assoc (numberBytes 0) (numberBytes d) (numberBytes k))
+bytes-parts (Sum d a b) = cells 1 d a b
+bytes-parts (Difference d a b) = cells 2 d a b
+bytes-parts (Product d a b) = cells 3 d a b
+bytes-parts (Less d a b) = cells 4 d a b
+bytes-parts (Equal d a b) = cells 5 d a b

@@ -3,11 +3,10 @@ use Prim.Native.Nat.{ℕ, _+_}
 use mathlib.Core.Bool.{Bool, cond}
 use mathlib.Core.List.{List}
 use lib.Dec.{leb}
-use lib.ListN.{length, getD}
+use lib.ListN.{length}
 use Rattle.definitions.specs.declared.Order.{Order}
-use Rattle.definitions.specs.Bytes.{numbersOf, orderBytes}
+use Rattle.definitions.specs.Bytes.{orderBytes}
 use Rattle.laws.specs.Write.{written}
-use Rattle.codec.specs.declared.OrderNumbers.{OrderNumbers}
 
 -- the order's bytes have room from an offset on
 abbrev pub hasRoom : (out : List ℕ) (at : ℕ) → Order → Bool
@@ -20,12 +19,3 @@ writtenSize out at order = cond (hasRoom out at order) (length (orderBytes order
 -- the bytes after that
 unfoldable pub writtenBytes : (out : List ℕ) (at : ℕ) → Order → List ℕ
 writtenBytes out at order = cond (hasRoom out at order) (written out at (orderBytes order)) out
-
--- an order's numbers, each in its field; a constant has no second cell
-abbrev pub fieldsOf : Order → OrderNumbers
-fieldsOf o = record {
-  kind = getD (numbersOf o) 0 0;
-  d = getD (numbersOf o) 1 0;
-  first = getD (numbersOf o) 2 0;
-  second = getD (numbersOf o) 3 0;
-}

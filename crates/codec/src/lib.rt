@@ -7,11 +7,11 @@ ghost use lib.Seq.{sets};
 ghost use Rattle.definitions.specs.Answers.{refusalOf};
 ghost use Rattle.definitions.specs.Bytes.{mostGroups, groups, numberBytes, orderBytes, readGroups, numberAt, kindAt, cellAt, constantAt, lastAt, restAt, targetAt, orderAt, cellsOrders, ofKind};
 ghost use Rattle.codec.specs.Answer.{answerAt, orderAnswer, numberAnswer, groupsAnswer, limitedAnswer};
-ghost use Rattle.codec.specs.Written.{fieldsOf, writtenSize, writtenBytes};
+ghost use Rattle.codec.specs.Written.{writtenSize, writtenBytes};
 use definitions::Limits;
 use definitions::Order;
 use definitions::Verdict;
-use definitions::kind;
+use definitions::parts_of;
 
 // A number has at most five groups, and is below 2^32.
 const MOST_GROUPS: usize = 5;
@@ -190,58 +190,6 @@ pub fn read_order(bytes: &[u8], at: usize) -> ReadOrder
     }
 }
 
-// The numbers of an order: its kind, its target, its constant or first cell, and its second cell.
-struct OrderNumbers {
-    kind: usize,
-    d: usize,
-    first: usize,
-    second: usize,
-}
-
-fn numbers_of(order: Order) -> OrderNumbers
-    ensures { λ r. ⌜ r ≡ fieldsOf order ⌝ }
-{
-    let kind = kind(order) as usize;
-    match order {
-        Order::Constant { d, k } => OrderNumbers {
-            kind,
-            d,
-            first: k as usize,
-            second: 0,
-        },
-        Order::Sum { d, a, b } => OrderNumbers {
-            kind,
-            d,
-            first: a,
-            second: b,
-        },
-        Order::Difference { d, a, b } => OrderNumbers {
-            kind,
-            d,
-            first: a,
-            second: b,
-        },
-        Order::Product { d, a, b } => OrderNumbers {
-            kind,
-            d,
-            first: a,
-            second: b,
-        },
-        Order::Less { d, a, b } => OrderNumbers {
-            kind,
-            d,
-            first: a,
-            second: b,
-        },
-        Order::Equal { d, a, b } => OrderNumbers {
-            kind,
-            d,
-            first: a,
-            second: b,
-        },
-    }
-}
-
 // How many of at most g groups a number has.
 fn group_count(v: usize, g: usize) -> usize
     requires { ⌜ g ≤ mostGroups ⌝ }
@@ -267,12 +215,12 @@ fn number_size(v: usize) -> usize
 fn order_size(order: Order) -> usize
     ensures { λ r. ⌜ r ≡ length (orderBytes order) ⌝ }
 {
-    let n = numbers_of(order);
-    let size = number_size(n.kind) + number_size(n.d) + number_size(n.first);
-    if n.kind == 0 {
-        return size;
+    let p = parts_of(order);
+    let size = number_size(p.kind as usize) + number_size(p.d);
+    if p.kind == 0 {
+        return size + number_size(p.k as usize);
     }
-    size + number_size(n.second)
+    size + number_size(p.a) + number_size(p.b)
 }
 
 // Writes a number's groups, of which there are at most g, from an offset on, and gives the offset after them.
@@ -316,12 +264,12 @@ fn put_order(out: &mut [u8], at: usize, order: Order) -> usize
     ensures next { λ r. ⌜ r ≡ at + length (orderBytes order) ⌝ }
     ensures bytes { λ _. ⌜ now (out .exit) ≡ sets (now (out .entry)) at (orderBytes order) ⌝ }
 {
-    let n = numbers_of(order);
-    let next = put_two(out, at, n.kind, n.d);
-    if n.kind == 0 {
-        return put_number(out, next, n.first);
+    let p = parts_of(order);
+    let next = put_two(out, at, p.kind as usize, p.d);
+    if p.kind == 0 {
+        return put_number(out, next, p.k as usize);
     }
-    put_two(out, next, n.first, n.second)
+    put_two(out, next, p.a, p.b)
 }
 
 // Writes an order at an offset if its bytes have room there, and gives how many bytes it wrote.

@@ -2,6 +2,7 @@
 use Prim.Native.Nat.{ℕ, zero, suc}
 use mathlib.Core.Bool.{Bool, true, false}
 use Rattle.definitions.specs.declared.Order.{Order}
+use Rattle.definitions.specs.declared.Parts.{Parts}
 use Rattle.definitions.specs.declared.Order.the-variants.{Constant, Sum, Difference, Product, Less, Equal}
 use Rattle.definitions.specs.declared.Verdict.{Verdict}
 use Rattle.definitions.specs.declared.Verdict.the-variants.{Accepted, BidCount, PoolCount, Length, Pool, Price, Quantity, Capacity, Diagonal, CutShort, Kind, Form, Operand, Position, Room, Cell}
@@ -68,3 +69,12 @@ kindOf (Difference d a b) = 2
 kindOf (Product d a b) = 3
 kindOf (Less d a b) = 4
 kindOf (Equal d a b) = 5
+
+-- an order by its numbers: its kind, its target, and its constant or its two cells, 0 where it has none
+abbrev pub partsOf : Order → Parts
+partsOf (Constant d k) = record { kind = kindOf (Constant d k); d = d; k = k; a = 0; b = 0 }
+partsOf (Sum d a b) = record { kind = kindOf (Sum d a b); d = d; k = 0; a = a; b = b }
+partsOf (Difference d a b) = record { kind = kindOf (Difference d a b); d = d; k = 0; a = a; b = b }
+partsOf (Product d a b) = record { kind = kindOf (Product d a b); d = d; k = 0; a = a; b = b }
+partsOf (Less d a b) = record { kind = kindOf (Less d a b); d = d; k = 0; a = a; b = b }
+partsOf (Equal d a b) = record { kind = kindOf (Equal d a b); d = d; k = 0; a = a; b = b }

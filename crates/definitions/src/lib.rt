@@ -1,7 +1,7 @@
 // The types that every part of the unit shares: its limits, the machine's orders, and the answers of its calls.
 // What each case means is defined in specs/, in the words and numbers of document 01.
 ghost use mathlib.Core.Path.{_≡_};
-ghost use Rattle.definitions.specs.Answers.{refusalOf, numberOf, placeOf, isNone, kindOf};
+ghost use Rattle.definitions.specs.Answers.{refusalOf, numberOf, placeOf, isNone, kindOf, partsOf};
 
 // The limits of the unit, together.
 pub struct Limits {}
@@ -77,6 +77,66 @@ pub fn kind(o: Order) -> u32
         Order::Product { d: _, a: _, b: _ } => 3,
         Order::Less { d: _, a: _, b: _ } => 4,
         Order::Equal { d: _, a: _, b: _ } => 5,
+    }
+}
+
+// An order by its numbers: its kind, its target, its constant, and the two cells that it reads; 0 where it has none.
+pub struct Parts {
+    pub kind: u32,
+    pub d: usize,
+    pub k: u32,
+    pub a: usize,
+    pub b: usize,
+}
+
+// The numbers of an order.
+pub fn parts_of(order: Order) -> Parts
+    ensures { λ r. ⌜ r ≡ partsOf order ⌝ }
+{
+    let kind = kind(order);
+    match order {
+        Order::Constant { d, k } => Parts {
+            kind,
+            d,
+            k,
+            a: 0,
+            b: 0,
+        },
+        Order::Sum { d, a, b } => Parts {
+            kind,
+            d,
+            k: 0,
+            a,
+            b,
+        },
+        Order::Difference { d, a, b } => Parts {
+            kind,
+            d,
+            k: 0,
+            a,
+            b,
+        },
+        Order::Product { d, a, b } => Parts {
+            kind,
+            d,
+            k: 0,
+            a,
+            b,
+        },
+        Order::Less { d, a, b } => Parts {
+            kind,
+            d,
+            k: 0,
+            a,
+            b,
+        },
+        Order::Equal { d, a, b } => Parts {
+            kind,
+            d,
+            k: 0,
+            a,
+            b,
+        },
     }
 }
 

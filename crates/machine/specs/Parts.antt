@@ -1,4 +1,4 @@
--- An order by its numbers, and what its kind makes of them: a step is one store of that (one-store), and an order that runs names cells of the sheet (runnable-parts).
+-- What an order's kind makes of its numbers: a step is one store of that (one-store), and an order that runs names cells of the sheet (runnable-parts).
 use Prim.Native.Nat.{ℕ, zero, suc, _<_}
 use mathlib.Core.Path.{_≡_, refl}
 use mathlib.Core.Bool.{true, _&&_}
@@ -8,12 +8,12 @@ use lib.Dec.{eqb, ltb}
 use lib.ListN.{length, set}
 use borrow.Author.Tests.{eqb-true, ltb-true}
 use Rattle.definitions.specs.declared.Order.{Order}
+use Rattle.definitions.specs.declared.Parts.{Parts}
 use Rattle.definitions.specs.declared.Order.the-variants.{Constant, Sum, Difference, Product, Less, Equal}
 use Rattle.definitions.specs.Limits.{cellCount, modulus}
-use Rattle.definitions.specs.Answers.{kindOf}
+use Rattle.definitions.specs.Answers.{partsOf}
 use Rattle.definitions.specs.Machine.{cell, plus, minus, times, lessThan, sameAs, stepOf}
 use Rattle.laws.specs.Tests.{and-left, and-right}
-use Rattle.machine.specs.declared.Parts.{Parts}
 use Rattle.machine.specs.Step.{constantRuns, cellsRun, runnable, cells-run}
 
 -- what an order of a kind makes of its constant and of two cells' contents
@@ -25,15 +25,6 @@ kindResult (suc (suc (suc zero))) k x y = times x y
 kindResult (suc (suc (suc (suc zero)))) k x y = lessThan x y
 kindResult (suc (suc (suc (suc (suc zero))))) k x y = sameAs x y
 kindResult (suc (suc (suc (suc (suc (suc kind)))))) k x y = 0
-
--- an order's numbers: its kind, its target, and its constant or its two cells, 0 where it has none
-abbrev pub partsOf : Order → Parts
-partsOf (Constant d k) = record { kind = kindOf (Constant d k); d = d; k = k; a = 0; b = 0 }
-partsOf (Sum d a b) = record { kind = kindOf (Sum d a b); d = d; k = 0; a = a; b = b }
-partsOf (Difference d a b) = record { kind = kindOf (Difference d a b); d = d; k = 0; a = a; b = b }
-partsOf (Product d a b) = record { kind = kindOf (Product d a b); d = d; k = 0; a = a; b = b }
-partsOf (Less d a b) = record { kind = kindOf (Less d a b); d = d; k = 0; a = a; b = b }
-partsOf (Equal d a b) = record { kind = kindOf (Equal d a b); d = d; k = 0; a = a; b = b }
 
 -- the sheet after one store of what they make
 abbrev pub store : List ℕ → Parts → List ℕ

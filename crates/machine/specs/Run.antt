@@ -15,9 +15,10 @@ use Rattle.definitions.specs.Arithmetic.{reading}
 use Rattle.definitions.specs.declared.Order.{Order}
 use Rattle.definitions.specs.declared.Order.the-variants.{Constant, Sum, Difference, Product, Less, Equal}
 use Rattle.definitions.specs.Machine.{cell, IsSheet, WellFormed, AllWellFormed, stepOf, runOf}
-use Rattle.machine.specs.declared.Parts.{Parts}
+use Rattle.definitions.specs.declared.Parts.{Parts}
 use Rattle.machine.specs.Step.{stepped, stepped-run, sheet-runs}
-use Rattle.machine.specs.Parts.{kindResult, partsOf, one-store}
+use Rattle.definitions.specs.Answers.{partsOf}
+use Rattle.machine.specs.Parts.{kindResult, one-store}
 
 -- ---- One order
 

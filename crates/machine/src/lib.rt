@@ -6,10 +6,10 @@ ghost use lib.ListN.{length};
 ghost use Rattle.definitions.specs.Limits.{cellCount, modulus};
 ghost use Rattle.definitions.specs.Machine.{stepOf, plus, minus, times, lessThan, sameAs};
 ghost use Rattle.machine.specs.Step.{holdsResidue, constantRuns, cellsRun, runnable, stepped};
-ghost use Rattle.machine.specs.Parts.{partsOf, kindResult};
+ghost use Rattle.machine.specs.Parts.{kindResult};
 use definitions::Limits;
 use definitions::Order;
-use definitions::kind;
+use definitions::parts_of;
 use residues::reading;
 
 // Orders 1, 2, 3: the sum, the difference, the product modulo p.
@@ -66,65 +66,6 @@ fn result(kind: u32, k: u32, x: u32, y: u32) -> u32
         4 => less(x, y),
         5 => equal(x, y),
         6..=u32::MAX => 0,
-    }
-}
-
-// An order's numbers. A constant makes nothing of a cell: a and b are then 0; for other kinds k is 0.
-struct Parts {
-    kind: u32,
-    d: usize,
-    k: u32,
-    a: usize,
-    b: usize,
-}
-
-fn parts_of(order: Order) -> Parts
-    ensures { λ r. ⌜ r ≡ partsOf order ⌝ }
-{
-    let kind = kind(order);
-    match order {
-        Order::Constant { d, k } => Parts {
-            kind,
-            d,
-            k,
-            a: 0,
-            b: 0,
-        },
-        Order::Sum { d, a, b } => Parts {
-            kind,
-            d,
-            k: 0,
-            a,
-            b,
-        },
-        Order::Difference { d, a, b } => Parts {
-            kind,
-            d,
-            k: 0,
-            a,
-            b,
-        },
-        Order::Product { d, a, b } => Parts {
-            kind,
-            d,
-            k: 0,
-            a,
-            b,
-        },
-        Order::Less { d, a, b } => Parts {
-            kind,
-            d,
-            k: 0,
-            a,
-            b,
-        },
-        Order::Equal { d, a, b } => Parts {
-            kind,
-            d,
-            k: 0,
-            a,
-            b,
-        },
     }
 }
 

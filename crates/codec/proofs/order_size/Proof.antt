@@ -5,17 +5,20 @@ use native.Mathlib.Omega.{arith}
 use lib.ListN.{length, length-append}
 use borrow.Author.Tests.{eq-eqb, ne-eqb}
 use Rattle.definitions.specs.Bytes.{numberBytes, orderBytes}
-use Rattle.codec.proofs.Stores.{headBytes, fieldsBytes, bytes-numbers}
+use Rattle.codec.proofs.Stores.{headBytes, partsBytes, bytes-parts}
 use borrow.Author.Needs.{needs}
 use Rattle.codec.proofs.order_size.Statement.{statement}
 use Rattle.codec.proofs.order_size.Tie as tie
 
 -- the order's bytes by its numbers
-whole : (c : tie.After-numbers-of) → orderBytes (c .before .args .order) ≡ fieldsBytes (c .numbers-of .result)
-whole c = bytes-numbers (c .before .args .order) ∙ ap fieldsBytes (sym (c .numbers-of .ensures))
+whole : (c : tie.After-parts-of) → orderBytes (c .before .args .order) ≡ partsBytes (c .parts-of .result)
+whole c = bytes-parts (c .before .args .order) ∙ ap partsBytes (sym (c .parts-of .ensures))
 
-numbers-of-requires : tie.Need-numbers-of-requires
-numbers-of-requires c κs = search needs
+parts-of-requires : tie.Need-parts-of-requires
+parts-of-requires c κs = search needs
+
+cast-number-size : tie.Need-cast-number-size
+cast-number-size c = search needs
 
 number-size-requires : tie.Need-number-size-requires
 number-size-requires c κs = search needs
@@ -26,59 +29,76 @@ number-size-requires-2 c κs = search needs
 add-size : tie.Need-add-size
 add-size c = search needs
 
+cast-number-size-2 : tie.Need-cast-number-size-2
+cast-number-size-2 c = search needs
+
 number-size-requires-3 : tie.Need-number-size-requires-3
 number-size-requires-3 c κs = search needs
 
-add-size-2 : tie.Need-add-size-2
-add-size-2 c = search needs
+add-result : tie.Need-add-result
+add-result c = search needs
 
 returns : tie.Need-returns
 returns c =
-    let n = c .before .before .before .before .before .numbers-of .result in
-    let e : orderBytes (c .before .before .before .before .before .before .args .order) ≡ headBytes n ++ numberBytes (n .first) = whole (c .before .before .before .before .before) ∙ simp (eq-eqb _ _ (c .if1 .taken)) in
+    let two = c .before .before .before .before in
+    let parts = two .before .before .before in
+    let p = parts .parts-of .result in
+    let e : orderBytes (parts .before .args .order) ≡ headBytes p ++ numberBytes (p .k) = whole parts ∙ simp (eq-eqb _ _ (c .before .before .if1 .taken)) in
     omega (
       arith,
       ap length e,
-      length-append (headBytes n) (numberBytes (n .first)),
-      length-append (numberBytes (n .kind)) (numberBytes (n .d)),
-      c .before .before .before .before .number-size .ensures .0,
-      c .before .before .before .number-size2 .ensures .0,
-      c .before .before .number-size3 .ensures .0,
+      length-append (headBytes p) (numberBytes (p .k)),
+      length-append (numberBytes (p .kind)) (numberBytes (p .d)),
+      two .before .number-size .ensures .0,
+      two .number-size2 .ensures .0,
+      c .number-size3 .ensures .0,
     )
 
 number-size-requires-4 : tie.Need-number-size-requires-4
 number-size-requires-4 c κs = search needs
 
-add-result : tie.Need-add-result
-add-result c = search needs
+add-result-2 : tie.Need-add-result-2
+add-result-2 c = search needs
+
+number-size-requires-5 : tie.Need-number-size-requires-5
+number-size-requires-5 c κs = search needs
+
+add-result-3 : tie.Need-add-result-3
+add-result-3 c = search needs
 
 returns-2 : tie.Need-returns-2
 returns-2 c =
-    let n = c .before .before .before .before .before .before .numbers-of .result in
-    let e : orderBytes (c .before .before .before .before .before .before .before .args .order) ≡ headBytes n ++ (numberBytes (n .first) ++ numberBytes (n .second)) = whole (c .before .before .before .before .before .before) ∙ simp (ne-eqb _ _ (c .before .if1 .left)) in
+    let two = c .before .before .before .before in
+    let parts = two .before .before .before in
+    let p = parts .parts-of .result in
+    let e : orderBytes (parts .before .args .order) ≡ headBytes p ++ (numberBytes (p .a) ++ numberBytes (p .b)) = whole parts ∙ simp (ne-eqb _ _ (c .before .before .if1 .left)) in
     omega (
       arith,
       ap length e,
-      length-append (headBytes n) (numberBytes (n .first) ++ numberBytes (n .second)),
-      length-append (numberBytes (n .kind)) (numberBytes (n .d)),
-      length-append (numberBytes (n .first)) (numberBytes (n .second)),
-      c .before .before .before .before .before .number-size .ensures .0,
-      c .before .before .before .before .number-size2 .ensures .0,
-      c .before .before .before .number-size3 .ensures .0,
-      c .number-size4 .ensures .0,
+      length-append (headBytes p) (numberBytes (p .a) ++ numberBytes (p .b)),
+      length-append (numberBytes (p .kind)) (numberBytes (p .d)),
+      length-append (numberBytes (p .a)) (numberBytes (p .b)),
+      two .before .number-size .ensures .0,
+      two .number-size2 .ensures .0,
+      c .before .number-size4 .ensures .0,
+      c .number-size5 .ensures .0,
     )
 
 pub order-size-spec : {M : Type 1} → statement M
 order-size-spec =
     tie.close
     (tie.spec
-    numbers-of-requires
+    parts-of-requires
+    cast-number-size
     number-size-requires
     number-size-requires-2
     add-size
+    cast-number-size-2
     number-size-requires-3
-    add-size-2
+    add-result
     returns
     number-size-requires-4
-    add-result
+    add-result-2
+    number-size-requires-5
+    add-result-3
     returns-2)

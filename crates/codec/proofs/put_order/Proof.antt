@@ -8,73 +8,99 @@ use lib.Dec.{eqb}
 use lib.ListN.{length, length-append}
 use borrow.Author.Tests.{eq-eqb, ne-eqb}
 use Rattle.definitions.specs.Bytes.{numberBytes, orderBytes}
-use Rattle.codec.proofs.Stores.{both, second-room, headBytes, fieldsBytes, bytes-numbers}
+use Rattle.codec.proofs.Stores.{both, second-room, headBytes, partsBytes, bytes-parts}
 use borrow.Author.Needs.{needs}
 use Rattle.codec.proofs.put_order.Statement.{statement}
 use Rattle.codec.proofs.put_order.Tie as tie
 
 -- the order's bytes by its numbers: for any kind, for kind 0, for kinds 1 to 5
-whole : (c : tie.After-numbers-of) → orderBytes (c .before .before .args .order) ≡ fieldsBytes (c .numbers-of .result)
-whole c = bytes-numbers (c .before .before .args .order) ∙ ap fieldsBytes (sym (c .numbers-of .ensures))
+whole : (c : tie.After-parts-of) → orderBytes (c .before .before .args .order) ≡ partsBytes (c .parts-of .result)
+whole c = bytes-parts (c .before .before .args .order) ∙ ap partsBytes (sym (c .parts-of .ensures))
 
-constant-is : (c : tie.Then1) → let n = c .before .before .before .before .before .before .numbers-of .result in orderBytes (c .before .before .before .before .before .before .before .before .args .order) ≡ headBytes n ++ numberBytes (n .first)
-constant-is c = whole (c .before .before .before .before .before .before) ∙ simp (eq-eqb _ _ (c .if1 .taken))
+constant-is : (c : tie.Then1) → let q = c .before .before .before .before .before .before .before in
+    orderBytes (q .before .before .args .order) ≡ headBytes (q .parts-of .result) ++ numberBytes (q .parts-of .result .k)
+constant-is c = whole (c .before .before .before .before .before .before .before) ∙ simp (eq-eqb _ _ (c .if1 .taken))
 
-cells-are : (c : tie.Else1) → let n = c .before .before .before .before .before .before .numbers-of .result in orderBytes (c .before .before .before .before .before .before .before .before .args .order) ≡ headBytes n ++ (numberBytes (n .first) ++ numberBytes (n .second))
-cells-are c = whole (c .before .before .before .before .before .before) ∙ simp (ne-eqb _ _ (c .if1 .left))
+cells-are : (c : tie.Else1) → let q = c .before .before .before .before .before .before .before in
+    orderBytes (q .before .before .args .order) ≡ headBytes (q .parts-of .result) ++ (numberBytes (q .parts-of .result .a) ++ numberBytes (q .parts-of .result .b))
+cells-are c = whole (c .before .before .before .before .before .before .before) ∙ simp (ne-eqb _ _ (c .if1 .left))
 
-numbers-of-requires : tie.Need-numbers-of-requires
-numbers-of-requires c κs = search needs
+parts-of-requires : tie.Need-parts-of-requires
+parts-of-requires c κs = search needs
+
+cast-put-two : tie.Need-cast-put-two
+cast-put-two c = search needs
 
 put-two-requires : tie.Need-put-two-requires
 put-two-requires c κs =
-    let n = c .before .numbers-of .result in
-    omega (arith, ap length (whole (c .before)), length-append (headBytes n) (cond (eqb (n .kind) 0) (numberBytes (n .first)) (numberBytes (n .first) ++ numberBytes (n .second))), c .before .before .before .pre)
+    let q = c .before .before in
+    let p = q .parts-of .result in
+    omega (
+      arith,
+      ap length (whole q),
+      length-append (headBytes p) (cond (eqb (p .kind) 0) (numberBytes (p .k)) (numberBytes (p .a) ++ numberBytes (p .b))),
+      q .before .before .pre,
+    )
+
+cast-put-number : tie.Need-cast-put-number
+cast-put-number c = search needs
 
 put-number-requires : tie.Need-put-number-requires
 put-number-requires c κs =
-    let s = c .before .before .before .before .before .before .before .before .before in
-    let n = c .before .before .before .before .before .before .before .numbers-of .result in
-    let p = c .before .before .before .before .before .put-two in
-    let h : s .args .at + length (headBytes n ++ numberBytes (n .first)) ≤ length (s .args .out .now) = omega (arith, ap length (constant-is (c .before)), s .pre) in
-    second-room (s .args .at) (p .result) (headBytes n) (numberBytes (n .first)) (s .args .out .now) (p .last .0) h (p .ensures .0) (p .kept .0)
+    let two = c .before .before .before .before .before .before in
+    let q = two .before .before .before in
+    let s = q .before .before in
+    let p = q .parts-of .result in
+    let h : s .args .at + length (headBytes p ++ numberBytes (p .k)) ≤ length (s .args .out .now) = omega (arith, ap length (constant-is (c .before .before)), s .pre) in
+    second-room (s .args .at) (two .put-two .result) (headBytes p) (numberBytes (p .k)) (s .args .out .now) (two .put-two .last .0) h (two .put-two .ensures .0) (two .put-two .kept .0)
 
 same-length : tie.Need-same-length
 same-length c = search needs
 
 returns : tie.Need-returns
 returns c =
-    let a = c .before .before .before .before .before .before .before .before .before .before .before .before .args in
-    let n = c .before .before .before .before .before .before .before .before .before .before .numbers-of .result in
-    let p = c .before .before .before .before .before .before .before .before .put-two in
-    let q = c .before .before .put-number in
-    rw (constant-is (c .before .before .before .before)) (both (a .out .now) (p .last .0) (q .last .0) (a .at) (p .result) (q .result) (headBytes n) (numberBytes (n .first)) (p .ensures .0) (p .ensures .1) (q .ensures .0) (q .ensures .1))
+    let constant = c .before .before .before .before .before in
+    let two = constant .before .before .before .before in
+    let q = two .before .before .before in
+    let a = q .before .before .args in
+    let p = q .parts-of .result in
+    let one = c .before .before .put-number in
+    rw (constant-is constant)
+    (both (a .out .now) (two .put-two .last .0) (one .last .0) (a .at) (two .put-two .result) (one .result) (headBytes p) (numberBytes (p .k))
+    (two .put-two .ensures .0) (two .put-two .ensures .1) (one .ensures .0) (one .ensures .1))
 
 put-two-requires-2 : tie.Need-put-two-requires-2
 put-two-requires-2 c κs =
-    let s = c .before .before .before .before .before .before .before .before .before in
-    let n = c .before .before .before .before .before .before .before .numbers-of .result in
-    let p = c .before .before .before .before .before .put-two in
-    let h : s .args .at + length (headBytes n ++ (numberBytes (n .first) ++ numberBytes (n .second))) ≤ length (s .args .out .now) = omega (arith, ap length (cells-are (c .before)), s .pre) in
-    second-room (s .args .at) (p .result) (headBytes n) (numberBytes (n .first) ++ numberBytes (n .second)) (s .args .out .now) (p .last .0) h (p .ensures .0) (p .kept .0)
+    let two = c .before .before .before .before .before in
+    let q = two .before .before .before in
+    let s = q .before .before in
+    let p = q .parts-of .result in
+    let h : s .args .at + length (headBytes p ++ (numberBytes (p .a) ++ numberBytes (p .b))) ≤ length (s .args .out .now) = omega (arith, ap length (cells-are (c .before)), s .pre) in
+    second-room (s .args .at) (two .put-two .result) (headBytes p) (numberBytes (p .a) ++ numberBytes (p .b)) (s .args .out .now) (two .put-two .last .0) h (two .put-two .ensures .0) (two .put-two .kept .0)
 
 same-length-2 : tie.Need-same-length-2
 same-length-2 c = search needs
 
 returns-2 : tie.Need-returns-2
 returns-2 c =
-    let a = c .before .before .before .before .before .before .before .before .before .before .before .before .args in
-    let n = c .before .before .before .before .before .before .before .before .before .before .numbers-of .result in
-    let p = c .before .before .before .before .before .before .before .before .put-two in
-    let q = c .before .before .put-two2 in
-    rw (cells-are (c .before .before .before .before)) (both (a .out .now) (p .last .0) (q .last .0) (a .at) (p .result) (q .result) (headBytes n) (numberBytes (n .first) ++ numberBytes (n .second)) (p .ensures .0) (p .ensures .1) (q .ensures .0) (q .ensures .1))
+    let cells = c .before .before .before .before in
+    let two = cells .before .before .before .before in
+    let q = two .before .before .before in
+    let a = q .before .before .args in
+    let p = q .parts-of .result in
+    let later = c .before .before .put-two2 in
+    rw (cells-are cells)
+    (both (a .out .now) (two .put-two .last .0) (later .last .0) (a .at) (two .put-two .result) (later .result) (headBytes p) (numberBytes (p .a) ++ numberBytes (p .b))
+    (two .put-two .ensures .0) (two .put-two .ensures .1) (later .ensures .0) (later .ensures .1))
 
 pub put-order-spec : {M : Type 1} → statement M
 put-order-spec =
     tie.close
     (tie.spec
-    numbers-of-requires
+    parts-of-requires
+    cast-put-two
     put-two-requires
+    cast-put-number
     put-number-requires
     same-length
     returns

@@ -5,7 +5,7 @@ use native.Mathlib.Omega.{arith}
 use lib.ListN.{length, set}
 use borrow.Author.Needs.{needs, scaled-fits}
 use Rattle.definitions.specs.Limits.{cellCount}
-use Rattle.machine.specs.declared.Parts.{Parts}
+use Rattle.definitions.specs.declared.Parts.{Parts}
 use Rattle.machine.specs.Parts.{store, one-store, Runs, runnable-parts}
 use Rattle.machine.proofs.step_within.Statement.{statement}
 use Rattle.machine.proofs.step_within.Tie as tie
