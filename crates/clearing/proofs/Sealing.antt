@@ -18,7 +18,7 @@ use Rattle.laws.specs.Refusal.{unless-refused, first-left}
 use Rattle.laws.specs.Sizes.{accepted-sizes}
 use Rattle.laws.specs.AcceptedBook.{Sound, accepted-sound}
 use Rattle.plan.specs.Plan.{plan}
-use Rattle.outcome.specs.PlanClears.{plan-outcome}
+use Rattle.clearing.specs.PlanClears.{plan-outcome}
 use Rattle.clearing.specs.Amounts.{AmountsWithin}
 use Rattle.clearing.specs.SealedSheet.{sealed-is-sheet}
 

@@ -25,7 +25,7 @@ use Rattle.plan.specs.Plan.{plan}
 use Rattle.plan.specs.List.{plan-orders, plan-length-limit}
 use Rattle.plan.specs.Asking.{asked-at-end}
 use Rattle.plan.specs.Collected.{collected-plan}
-use Rattle.outcome.specs.PlanClears.{plan-outcome}
+use Rattle.clearing.specs.PlanClears.{plan-outcome}
 use Rattle.clearing.specs.SealedSheet.{sealed-is-sheet}
 
 -- One list of orders clears book A.

@@ -17,7 +17,7 @@ use Rattle.definitions.specs.Settle as settle
 use Rattle.definitions.proofs.SettleFacts.{read-two, listed-two}
 use Rattle.opening.specs.Opened.{opened-outcome}
 use Rattle.plan.specs.Plan.{plan}
-use Rattle.outcome.specs.PlanClears.{plan-outcome}
+use Rattle.clearing.specs.PlanClears.{plan-outcome}
 use Rattle.examples.specs.Examples.{listed, proved-examples}
 
 -- the text printed is the listing of a best clearing with permitted flows, and of its welfare

@@ -1,2 +1,0 @@
--- The plan computes the theory's closed forms, and so it clears.
-pub mod PlanClears
