@@ -1,11 +1,14 @@
 /* For comparison of speed, in plain C: (a) the plan already decoded, run by a loop; (b) the same clearing by a greedy with augmenting paths.
+ * And the plan writer: (c) the whole plan in slices of 64 bytes, (d) in slices of 4,096.
  * Usage: speed BYTES < BOOK, BYTES a file with the plan's bytes for the book's counts, BOOK settle's input. Prints the count of orders and the
- * microseconds per clearing of each; fails if they accept other amounts. */
+ * microseconds of each; fails if (a) and (b) accept other amounts, or if (c) or (d) give other bytes. */
 #include <stdint.h>
 #include <stdio.h>
 #include <stdlib.h>
 #include <string.h>
 #include <time.h>
+
+#include "dacwiiqon.h"
 
 #define P 2147483647u
 #define CELLS 4096
@@ -95,6 +98,33 @@ static void greedy(int64_t *accepted) {
     }
 }
 
+/* The whole plan in slices of a length: the bytes got. */
+static size_t walk(uint8_t *to, size_t length) {
+    uint8_t out[24];
+    uint64_t position = 0, given[3] = {0, 1, 0};
+    size_t size = 0;
+    while (given[1] > 0 && plan_bytes((uint64_t)n, (uint64_t)m, position, to + size, length, out, sizeof out) == 0) {
+        memset(given, 0, sizeof given);
+        for (int k = 23; k >= 0; k--) given[k / 8] = given[k / 8] * 256 + out[k];
+        size += given[0];
+        position = given[2];
+    }
+    return size;
+}
+
+static double walks(const uint8_t *bytes, size_t size, size_t length) {
+    static uint8_t got[1 << 20];
+    int turns = 40;
+    double start = now();
+    for (int k = 0; k < turns; k++) {
+        if (walk(got, length) != size || memcmp(got, bytes, size) != 0) {
+            fprintf(stderr, "slices of %zu bytes give other bytes\n", length);
+            exit(1);
+        }
+    }
+    return (now() - start) / turns;
+}
+
 int main(int count, char **words) {
     static uint8_t bytes[1 << 20];
     static struct order list[1 << 16];
@@ -124,6 +154,6 @@ int main(int count, char **words) {
             return 1;
         }
     }
-    printf("%zu %.1f %.1f\n", orders, decoded, paths);
+    printf("%zu %.1f %.1f %.1f %.1f\n", orders, decoded, paths, walks(bytes, size, 64), walks(bytes, size, 4096));
     return 0;
 }
