@@ -10,6 +10,8 @@ ghost use Rattle.listing.specs.Lines.{lastField, rowLines};
 ghost use Rattle.listing.specs.Put.{Put};
 ghost use Rattle.listing.specs.Text.{listable, listingSize, listingSlice, refusedSize, refusedSlice, unreadableSize, unreadableSlice};
 use definitions::Limits;
+use definitions::is_accepted;
+use judging::judge_counts;
 
 // The bytes that a caller lends: no text is longer.
 pub struct Listing {}
@@ -219,13 +221,7 @@ fn put_refused(out: &mut [u8], number: usize, place: usize) -> usize
 fn can_list(n: usize, m: usize, results: usize, room: usize) -> bool
     ensures { λ r. ⌜ r ≡ listable n m results room ⌝ }
 {
-    if Limits::BIDS < n {
-        return false;
-    }
-    if m == 0 {
-        return false;
-    }
-    if Limits::POOLS < m {
+    if !is_accepted(judge_counts(n, m)) {
         return false;
     }
     if results != n + m * m + Limits::POOL_RESULTS * m {

@@ -1,59 +1,73 @@
 -- `can_list` meets its contract: its tests are those of the definition, in its order.
 use Prim.Native.Nat.{_*_, _≤_}
+use mathlib.Core.Path.{_≡_}
+use mathlib.Core.Bool.{false}
 use native.Mathlib.Omega.{arith}
-use native.Mathlib.Nat.{mul-le-mul-right}
+use native.Mathlib.Nat.{mul-le-mul}
 use borrow.Author.Needs.{needs}
-use borrow.Author.Tests.{lt-ltb, le-ltb, eq-eqb, ne-eqb}
+use borrow.Author.Tests.{eq-eqb, ne-eqb}
+use Rattle.definitions.specs.Limits.{poolLimit}
+use Rattle.definitions.specs.Answers.{isNone, none}
+use Rattle.definitions.specs.Calls.{countsRefusal}
+use Rattle.laws.specs.Search.{turned-away, let-through}
+use Rattle.laws.specs.Sizes.{Counts, counted}
 use Rattle.listing.specs.Text.{listable}
 use Rattle.listing.proofs.can_list.Statement.{statement}
 use Rattle.listing.proofs.can_list.Tie as tie
 
+judge-counts-requires : tie.Need-judge-counts-requires
+judge-counts-requires c κs = search needs
+
+is-accepted-requires : tie.Need-is-accepted-requires
+is-accepted-requires c κs = search needs
+
 returns : tie.Need-returns
 unfolding listable
-returns c = simp (lt-ltb _ _ (c .if1 .taken))
+returns c =
+    let judged = c .before .before in
+    let refused : isNone (countsRefusal (judged .before .args .n) (judged .before .args .m)) ≡ false = turned-away (judged .judge-counts .ensures) (c .before .is-accepted .ensures) (c .if1 .taken) in
+    rw refused
+
+-- the counts pass
+passed : (c : tie.Else1) → countsRefusal (c .before .before .before .args .n) (c .before .before .before .args .m) ≡ none
+passed c = let-through (c .before .before .judge-counts .ensures) (c .before .is-accepted .ensures) (c .if1 .left)
+
+counts : (c : tie.Else1) → Counts (c .before .before .before .args .n) (c .before .before .before .args .m)
+counts c = counted _ _ (passed c)
+
+square : (c : tie.Else1) → let m = c .before .before .before .args .m in m * m ≤ poolLimit * poolLimit
+square c = mul-le-mul (counts c .pools .most) (counts c .pools .most)
+
+mul-if2 : tie.Need-mul-if2
+mul-if2 c = omega (arith, square c)
+
+add-if2 : tie.Need-add-if2
+add-if2 c = omega (arith, square c, counts c .bids)
+
+mul-if2-2 : tie.Need-mul-if2-2
+mul-if2-2 c = omega (arith, counts c .pools .most)
+
+add-if2-2 : tie.Need-add-if2-2
+add-if2-2 c = omega (arith, square c, counts c .bids, counts c .pools .most)
 
 returns-2 : tie.Need-returns-2
 unfolding listable
-returns-2 c = simp (le-ltb _ _ (c .before .if1 .left), eq-eqb _ _ (c .if2 .taken))
+returns-2 c = rw (passed (c .before)) (simp (ne-eqb _ _ (c .if2 .taken)))
 
 returns-3 : tie.Need-returns-3
 unfolding listable
-returns-3 c = simp (le-ltb _ _ (c .before .before .if1 .left), ne-eqb _ _ (c .before .if2 .left), lt-ltb _ _ (c .if3 .taken))
-
--- few pools
-square : (c : tie.Else3) → let m = c .before .before .before .args .m in m * m ≤ 16
-square c = let m = c .before .before .before .args .m in omega (arith, mul-le-mul-right {m = m} {n = 4} m (c .if3 .left), c .if3 .left)
-
-mul-if4 : tie.Need-mul-if4
-mul-if4 c = omega (arith, square c)
-
-add-if4 : tie.Need-add-if4
-add-if4 c = omega (arith, square c)
-
-mul-if4-2 : tie.Need-mul-if4-2
-mul-if4-2 c = search needs
-
-add-if4-2 : tie.Need-add-if4-2
-add-if4-2 c = omega (arith, square c)
-
-returns-4 : tie.Need-returns-4
-unfolding listable
-returns-4 c = simp (le-ltb _ _ (c .before .before .before .if1 .left), ne-eqb _ _ (c .before .before .if2 .left), le-ltb _ _ (c .before .if3 .left), ne-eqb _ _ (c .if4 .taken))
-
-returns-5 : tie.Need-returns-5
-unfolding listable
-returns-5 c = simp (le-ltb _ _ (c .before .before .before .if1 .left), ne-eqb _ _ (c .before .before .if2 .left), le-ltb _ _ (c .before .if3 .left), eq-eqb _ _ (c .if4 .left))
+returns-3 c = rw (passed (c .before)) (simp (eq-eqb _ _ (c .if2 .left)))
 
 pub can-list-spec : {M : Type 1} → statement M
 can-list-spec =
     tie.close
     (tie.spec
+    judge-counts-requires
+    is-accepted-requires
     returns
+    mul-if2
+    add-if2
+    mul-if2-2
+    add-if2-2
     returns-2
-    returns-3
-    mul-if4
-    add-if4
-    mul-if4-2
-    add-if4-2
-    returns-4
-    returns-5)
+    returns-3)
