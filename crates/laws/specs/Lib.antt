@@ -6,6 +6,7 @@ pub mod SignedTests
 pub mod IntegerSize
 pub mod Write
 pub mod Refusal
+pub mod Verdicts
 pub mod Search
 pub mod Sizes
 pub mod AcceptedBook

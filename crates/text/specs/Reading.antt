@@ -8,8 +8,9 @@ use lib.IntN.{ℤ, pos, natAbs}
 use lib.Signed.{ltZ}
 use Rattle.definitions.specs.Limits.{bidLimit, poolLimit, bidNumbers}
 use Rattle.definitions.specs.Book.{book}
-use Rattle.definitions.specs.Answers.{refusalOf}
-use Rattle.definitions.specs.declared.Verdict.the-variants.{BidCount, PoolCount}
+use Rattle.definitions.specs.Answers.{Refusal, none, refuse, refusalOf}
+use Rattle.definitions.specs.Calls.{countsRefusal}
+use Rattle.laws.specs.Verdicts.{verdictOf}
 use Rattle.definitions.specs.Settle.{blank}
 use Rattle.definitions.specs.Settle as settle
 use Rattle.text.specs.declared.Word.the-variants.{Empty}
@@ -30,12 +31,13 @@ numberLimit = bidNumbers * bidLimit + poolLimit * poolLimit
 
 -- ---- The numbers read
 
--- 1 and 2, or how many numbers the tables have
-abbrev pub poolsOf : (n m : ℕ) → Counts
-poolsOf n m = cond (eqb m 0) (Faulty PoolCount) (cond (ltb poolLimit m) (Faulty PoolCount) (Numbers (bidNumbers * n + m * m)))
+-- what the counts call for, by what is said of them: how many numbers the tables have, or the refusal
+abbrev pub countsBy : (n m : ℕ) → Refusal → Counts
+countsBy n m none = Numbers (bidNumbers * n + m * m)
+countsBy n m (refuse number place) = Faulty (verdictOf (refuse number place))
 
 abbrev pub countsOf : (n m : ℕ) → Counts
-countsOf n m = cond (ltb bidLimit n) (Faulty BidCount) (poolsOf n m)
+countsOf n m = countsBy n m (countsRefusal n m)
 
 -- both counts are read
 abbrev pub begun : (n m : ℕ) → Counts → Stage

@@ -7,6 +7,8 @@ ghost use Rattle.text.specs.Texts.{noneStored, wholeRead};
 ghost use Rattle.text.specs.Words.{grownBy, digitAfter, capped, endedOf, signedOf};
 use definitions::Limits;
 use definitions::Verdict;
+use definitions::is_accepted;
+use judging::judge_counts;
 
 // The word being read: nothing yet, a minus alone, digits with their sign and value, or no number whatever follows.
 pub enum Word {
@@ -141,14 +143,9 @@ fn end(word: Word) -> Ended
 fn call_for(n: usize, m: usize) -> Counts
     ensures { λ r. ⌜ r ≡ countsOf n m ⌝ }
 {
-    if Limits::BIDS < n {
-        return Counts::Faulty(Verdict::BidCount);
-    }
-    if m == 0 {
-        return Counts::Faulty(Verdict::PoolCount);
-    }
-    if Limits::POOLS < m {
-        return Counts::Faulty(Verdict::PoolCount);
+    let verdict = judge_counts(n, m);
+    if !is_accepted(verdict) {
+        return Counts::Faulty(verdict);
     }
     Counts::Numbers(Limits::BID_NUMBERS * n + m * m)
 }
