@@ -1,3 +1,3 @@
--- What the code of the layout cites: the plan's length, and the tables of its families.
-pub mod Lengths
+-- What the code of the layout cites: the count of sets, and the tables of the families.
+pub mod Sets
 pub mod Tables

@@ -1,14 +1,11 @@
-// What follows from n and m alone, before any order is made: how many orders the plan has, and where each family of cells stands on the sheet.
+// What follows from n and m alone, before any order is made: how many sets of pools there are, and where each family of cells stands on the sheet.
 ghost use mathlib.Core.Path.{_≡_};
-ghost use Prim.Native.Nat.{_*_, _^_, _<_, _≤_};
-ghost use lib.ListN.{length};
-ghost use Rattle.definitions.specs.Limits.{bidLimit, poolLimit};
+ghost use Prim.Native.Nat.{_*_, _^_, _≤_};
+ghost use Rattle.definitions.specs.Limits.{poolLimit};
 ghost use Rattle.definitions.specs.Answers.{none};
 ghost use Rattle.definitions.specs.Calls.{countsRefusal};
-ghost use Rattle.definitions.specs.Plan.{total};
 ghost use Rattle.plan.specs.Names.{rowTable, columnTable};
-ghost use Rattle.plan.specs.Plan.{plan};
-ghost use Rattle.layout.specs.Lengths.{subsetCount};
+ghost use Rattle.layout.specs.Sets.{subsetCount};
 ghost use Rattle.layout.specs.Tables.{AreStarts, StartsOrNone};
 use definitions::Limits;
 use definitions::is_accepted;
@@ -227,28 +224,4 @@ pub fn starts_of(n: usize, m: usize) -> [usize; Family::COUNT]
         return [0; Family::COUNT];
     }
     starts_within(n, m)
-}
-
-// How many orders the plan has, for counts within their limits.
-fn length_within(n: usize, m: usize) -> usize
-    requires { ⌜ n ≤ bidLimit ⌝ }
-    requires { ⌜ m ≤ poolLimit ⌝ }
-    requires { ⌜ 0 < m ⌝ }
-    ensures { λ r. ⌜ r ≡ length (plan n m) ⌝ }
-{
-    let sets = subset_count(m);
-    let lines = m * m;
-    n * n * (1 + 2 * m)
-        + n * (29 + 17 * m + 12 * sets)
-        + (8 + 11 * m + 2 * lines + sets * (7 + 6 * lines))
-}
-
-// How many orders the plan has; none for refused counts.
-pub fn plan_length(n: usize, m: usize) -> usize
-    ensures { λ r. ⌜ r ≡ total plan n m ⌝ }
-{
-    if !is_accepted(judge_counts(n, m)) {
-        return 0;
-    }
-    length_within(n, m)
 }

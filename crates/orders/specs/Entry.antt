@@ -1,6 +1,6 @@
 -- What a plan has at a position: an order before the total, else nothing; and what each of the two says of counts and position.
 use Prim.Native.Nat.{ℕ, _≤_, _<_}
-use mathlib.Core.Path.{_≡_, refl, sym, _∙_}
+use mathlib.Core.Path.{_≡_, refl, sym, ap, _∙_}
 use mathlib.Core.Bool.{Bool, cond}
 use native.Mathlib.Omega.{arith}
 use lib.Dec.{ltb}
@@ -12,6 +12,12 @@ use Rattle.definitions.specs.Answers.{Refusal, none, refuse, unless}
 use Rattle.definitions.specs.Calls.{countsRefusal}
 use Rattle.definitions.specs.Plan.{Plan, total}
 use Rattle.laws.specs.Tests.{Lt?, less, more, lt?}
+use Rattle.plan.specs.Asking.{total-accepted}
+use Rattle.plan.specs.Phased.{flat, flat-length, Has}
+use Rattle.plan.specs.Table.{table}
+use Rattle.plan.specs.Plan.{plan, plan-length, plan-has}
+use Rattle.orders.specs.declared.names.NamedOrder.{NamedOrder}
+use Rattle.orders.specs.Walk.{namedOf, numberedOf}
 use Rattle.orders.specs.declared.Entry.{Entry}
 use Rattle.orders.specs.declared.Entry.the-variants as case
 
@@ -58,3 +64,15 @@ module _ (P : Plan) (n m at : ℕ) where
           let q : case.Nothing ≡ case.Order (getD (P n m) at (Constant 0 0)) = e ∙ sym (entry-before h) in
           absurd (let z : _≡_ {A = ℕ} 0 1 = cc in omega arith)
       go (more h) = h
+
+-- ---- the plan's entry from that of its table
+
+module _ (n m at : ℕ) (counts : countsRefusal n m ≡ none) where
+  pub entry-found : (o : NamedOrder) (order : Order) → Has (flat (table n m)) at (namedOf o) → order ≡ numberedOf n m o → case.Order order ≡ planEntry plan n m at
+  unfolding numberedOf
+  entry-found o order h e =
+      let has = plan-has n m at (namedOf o) h in
+      ap (λ (u : Order). case.Order u) (e ∙ sym (has .is (Constant 0 0))) ∙ entry-before plan n m at (omega (arith, has .inside, total-accepted plan n m counts))
+
+  pub entry-none : length (flat (table n m)) ≤ at → case.Nothing ≡ planEntry plan n m at
+  entry-none h = entry-after plan n m at (omega (arith, total-accepted plan n m counts, plan-length n m, flat-length (table n m)))

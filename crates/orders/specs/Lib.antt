@@ -1,4 +1,7 @@
--- What the code of the orders cites: digits, the plan's tree walked by position, and what it answers at a position.
+-- What the code of the orders cites: digits of sets, orders over names, the shape of a phase, the walk through the table, cells, and what is answered at a position.
 pub mod Digits
 pub mod Walk
+pub mod Shaped
+pub mod Steps
+pub mod Cells
 pub mod Entry

@@ -1,9 +1,6 @@
 // From names to cells.
 ghost use mathlib.Core.Path.{_≡_};
-ghost use Prim.Native.Nat.{_≤_};
-ghost use Rattle.definitions.specs.Limits.{bidLimit, poolLimit};
-ghost use Rattle.plan.specs.Plan.{cellOf};
-ghost use Rattle.plan.specs.Proper.{Proper, Valid};
+ghost use Rattle.plan.specs.Plan.{cellOf, Placed, PlacedOrder};
 ghost use Rattle.layout.specs.Tables.{IsLayout};
 ghost use Rattle.orders.specs.Walk.{nameOf, namedOf, numberedOf};
 use crate::names::CellName;
@@ -20,10 +17,8 @@ fn cell_of(
     columns: &[usize; Family::COUNT],
     c: CellName,
 ) -> usize
-    requires { ⌜ n ≤ bidLimit ⌝ }
-    requires { ⌜ m ≤ poolLimit ⌝ }
     requires { ⌜ IsLayout n m (now starts) (now columns) ⌝ }
-    requires { ⌜ Valid n m (nameOf c) ⌝ }
+    requires { ⌜ Placed n m (nameOf c) ⌝ }
     ensures { λ r. ⌜ r ≡ cellOf n m (nameOf c) ⌝ }
 {
     let t = c.0;
@@ -40,10 +35,8 @@ pub fn numbered_order(
     columns: &[usize; Family::COUNT],
     o: NamedOrder,
 ) -> Order
-    requires { ⌜ n ≤ bidLimit ⌝ }
-    requires { ⌜ m ≤ poolLimit ⌝ }
     requires { ⌜ IsLayout n m (now starts) (now columns) ⌝ }
-    requires { ⌜ Proper n m (namedOf o) ⌝ }
+    requires { ⌜ PlacedOrder n m (namedOf o) ⌝ }
     ensures { λ r. ⌜ r ≡ numberedOf n m o ⌝ }
 {
     match o {

@@ -10,7 +10,8 @@ use Rattle.definitions.specs.Book.{Book, book}
 use Rattle.definitions.specs.Sheet.{sealedSheet, firstScratch}
 use Rattle.definitions.specs.Machine.{runOf}
 use Rattle.plan.specs.Subsets.{member, lowest, others}
-use Rattle.plan.specs.Numbered.{scratchCount, plan}
+use Rattle.plan.specs.Table.{scratchCount, work, table}
+use Rattle.plan.specs.Numbered.{plan}
 
 -- three pools, lines 2 to 1, 3 to 1 and 3 to 2 carry 5, 2 and 5; (1,−10,4), (3,−10,−5), (2,−10,−5): of two equal sales the first is accepted, and half
 -- of it goes round by pool 2
@@ -26,5 +27,5 @@ threePoolsCleared =
     ∷ 4 ∷ 4 ∷ 0 ∷ 0 ∷ 0 ∷ 0 ∷ 2 ∷ 0 ∷ 0 ∷ 2 ∷ 2 ∷ 0 ∷ 0 ∷ 0 ∷ 0 ∷ 0 ∷ 2147483637 ∷ 1 ∷ replicate (cellCount - firstScratch 3 3) 0
 
 pub example-run : runOf (plan 3 3) (sealedSheet threePools) ≡ threePoolsCleared
-unfolding sumTo sealedSheet runOf member lowest others scratchCount plan
+unfolding sumTo sealedSheet runOf member lowest others scratchCount work table plan
 example-run = refl

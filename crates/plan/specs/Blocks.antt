@@ -1,9 +1,9 @@
--- The plan's smallest blocks of orders, each from the numbers of its bids, pools and sets only; the work puts them together.
+-- The plan's smallest blocks of orders, each from the numbers of its bids, pools and sets only; the table puts them together.
 use mathlib.Core.Bool.{Bool, true, false, cond}
 use mathlib.Core.List.{List, [], _∷_}
 use Prim.Native.Nat.{ℕ, suc}
 use lib.Dec.{ltb}
-use Rattle.definitions.specs.Limits.{priceLimit}
+use Rattle.definitions.specs.Limits.{priceLimit, greatestPositive}
 use Rattle.plan.specs.Orders.{OrderOn, constant, sum, difference, product, less, equal, Name, at}
 use Rattle.plan.specs.Names.{units, shifts, Pool, Price, Quantity, Capacity, Amount, Flow, PoolPrice, Presence, Temporary, ZeroCell, One, Shift, PoolNumber, Side, Size, PositivePrice, Double, Key, Next, Membership, PoolSize, Demand, Subset, Cut, SizeBefore, RankBefore, SizeWith, RankWith, Used, Placement, Slack, Offer, HighestOffer}
 use Rattle.plan.specs.Subsets.{leaves, complement}
@@ -67,9 +67,17 @@ poolSizeBlock i p = product (PoolSize i p) (Membership i p) (Size i) ∷ []
 
 -- ---- the cuts
 
+-- the demand of pool p, 0 to start from
+abbrev pub demandStart : ℕ → Block
+demandStart p = constant (Demand p) 0 ∷ []
+
 -- the size of bid i, if it is a purchase in pool p, added to the pool's demand
 abbrev pub demandTurn : (p i : ℕ) → Block
 demandTurn p i = product (Temporary 0) (Side i) (PoolSize i p) ∷ sum (Demand p) (Demand p) (Temporary 0) ∷ []
+
+-- the cut of set S, the sum over it to start from
+abbrev pub cutStart : ℕ → Block
+cutStart S = sum (Cut S) (Subset S) ZeroCell ∷ []
 
 -- the zero cell where the line does not leave the set: every turn is one order
 abbrev pub cutTurn : (S a b : ℕ) → Block
@@ -91,9 +99,13 @@ testOrder i j = testAt (ltb j i) (ltb i j) i j
 abbrev pub gainTurn : (i j p : ℕ) → Block
 gainTurn i j p = product (Temporary 1) (Temporary 0) (PoolSize j p) ∷ sum (SizeBefore i p) (SizeBefore i p) (Temporary 1) ∷ []
 
--- 0 to start from
+-- the sizes before bid i in pool p, 0 to start from
 abbrev pub sizeBeforeStart : (i p : ℕ) → Block
 sizeBeforeStart i p = constant (SizeBefore i p) 0 ∷ []
+
+-- a cost in d, the greatest number to start from
+abbrev pub costStart : Name → Block
+costStart d = constant d greatestPositive ∷ []
 
 -- lower d to what the set S costs: its cut, and the subset's sum outside it
 abbrev pub costTurn : (m : ℕ) (d : Name) (S : ℕ) → Block
@@ -120,6 +132,10 @@ amountBlock i =
 
 -- ---- the flows
 
+-- what is used in pool p, 0 to start from
+abbrev pub placementStart : ℕ → Block
+placementStart p = constant (Placement p) 0 ∷ []
+
 -- the used amount of bid i, if it is in pool p, added to the pool's
 abbrev pub placementTurn : (p i : ℕ) → Block
 placementTurn p i = product (Temporary 0) (Membership i p) (Used i) ∷ sum (Placement p) (Placement p) (Temporary 0) ∷ []
@@ -127,6 +143,10 @@ placementTurn p i = product (Temporary 0) (Membership i p) (Used i) ∷ sum (Pla
 -- the slack of set S before any line has its flow
 abbrev pub slackBlock : ℕ → Block
 slackBlock S = difference (Slack S) (Cut S) (Subset S) ∷ []
+
+-- what line a to b leaves unused, its capacity to start from
+abbrev pub restStart : (a b : ℕ) → Block
+restStart a b = sum (Temporary 2) (Capacity a b) ZeroCell ∷ []
 
 -- where the set does not separate the line's ends, the least is taken with the capacity again
 abbrev pub restCell : Bool → (S a b : ℕ) → Name
@@ -136,6 +156,10 @@ restCell false S a b = Capacity a b
 -- one step of the least: what line a to b leaves unused is at most the slack of S, if the line leaves S
 abbrev pub restTurn : (a b S : ℕ) → Block
 restTurn a b S = lowered (Temporary 2) (restCell (leaves S a b) S a b)
+
+-- the flow of line l, a to b: its capacity less the rest
+abbrev pub flowBlock : (l a b : ℕ) → Block
+flowBlock l a b = difference (Flow l) (Capacity a b) (Temporary 2) ∷ []
 
 -- what comes off a slack: the rest, the flow, or nothing
 abbrev pub takenCell : Bool → Bool → (l : ℕ) → Name
@@ -158,6 +182,10 @@ offerBlock i =
     ∷ product (Offer i) (Temporary 0) (PositivePrice i)
     ∷ []
 
+-- the highest offer in pool p, 0 to start from
+abbrev pub highestOfferStart : ℕ → Block
+highestOfferStart p = constant (HighestOffer p) 0 ∷ []
+
 -- one step of the greatest: the offer of bid i if it is in pool p
 abbrev pub highestOfferTurn : (p i : ℕ) → Block
 highestOfferTurn p i = product (Temporary 2) (Membership i p) (Offer i) ∷ raised (HighestOffer p) (Temporary 2)
@@ -169,3 +197,9 @@ priceBlock p =
     ∷ difference (Temporary 0) (HighestOffer p) Shift
     ∷ product (PoolPrice p) (Temporary 0) (Presence p)
     ∷ []
+
+-- ---- the end
+
+-- 0 in scratch cell c: the scratch begins with the temporaries, a family of one column
+abbrev pub zeroBlock : ℕ → Block
+zeroBlock c = constant (Temporary c) 0 ∷ []

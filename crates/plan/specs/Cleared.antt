@@ -11,7 +11,7 @@ use lib.Arith.{digits-lt}
 use lib.ListN.{length, set}
 use lib.Seq.{getD-set-same, getD-set-other}
 use Rattle.definitions.specs.declared.Order.{Order}
-use Rattle.definitions.specs.Limits.{cellCount, modulus}
+use Rattle.definitions.specs.Limits.{cellCount}
 use Rattle.definitions.specs.Arithmetic.{sumTo}
 use Rattle.definitions.specs.Book.{Book}
 use Rattle.definitions.specs.Sheet.{sealedSheet, firstResult, amountCell, flowCell, priceCell, presenceCell, firstScratch}
@@ -24,12 +24,14 @@ use Rattle.plan.specs.Names.{amounts, flows, prices, temporaries, family
 use Rattle.plan.specs.Layout.{address-below, address-apart}
 use Rattle.laws.specs.Run.{run-append}
 use Rattle.plan.specs.Simulation.{run-length, run-other, AllNamed, run-agrees}
-use Rattle.plan.specs.Tree.{flat, all-imply, every-flat}
+use Rattle.plan.specs.Entries.{all-imply}
+use Rattle.plan.specs.Phased.{flat, flat-last, each-flat}
 use Rattle.plan.specs.Values.{tables, acceptedAmount, lineFlow, closedPrice, closedPresence}
-use Rattle.plan.specs.Work.{work}
+use Rattle.plan.specs.Blocks.{zeroBlock}
+use Rattle.plan.specs.Table.{scratchCount, zeroPhase, work, table}
 use Rattle.plan.specs.Whole.{outputs, work-done}
-use Rattle.plan.specs.Proper.{Valid, Proper, work-proper}
-use Rattle.plan.specs.Plan.{from, from-scratch, from-end, cellOf, scratchCount, zeroBlock, numbered, plan, Writable, WritesWell, numbered-writes, names-fit}
+use Rattle.plan.specs.Proper.{Valid, Proper, work-each}
+use Rattle.plan.specs.Plan.{from, from-scratch, from-end, zero-cell, cellOf, numbered, plan, Writable, WritesWell, numbered-writes, names-fit}
 use Rattle.plan.specs.Sealed.{sealedState, sealed-length, sealed-zero, sealed-inputs}
 
 -- what the sheet r holds when book B is cleared, by document 01's cells
@@ -42,19 +44,26 @@ pub record HoldsClearing (B : Book) (r : List ℕ) : Type 0 where
   pub presence-cells : (p : ℕ) → p < B .m → cell r (presenceCell (B .n) (B .m) p) ≡ closedPresence B p
   pub scratch-zero : (c : ℕ) → firstScratch (B .n) (B .m) ≤ c → cell r c ≡ 0
 
-run-parts : (x y : List (OrderOn ℕ)) (s : List ℕ) → runOf (map orderOf (x ++ y)) s ≡ runOf (map orderOf y) (runOf (map orderOf x) s)
-run-parts x y s = ap (λ (l : List Order). runOf l s) (map-append orderOf x y) ∙ run-append (map orderOf x) (map orderOf y) s
-
--- ---- the last loop: 0 in the first k scratch cells
-
 module _ (n m : ℕ) where
+  -- the sheet after orders over names
+  abbrev after : List (OrderOn Name) → List ℕ → List ℕ
+  after l s = runOf (map orderOf (map (renamed (cellOf n m)) l)) s
+
+  after-both : (x y : List (OrderOn Name)) (s : List ℕ) → after (x ++ y) s ≡ after y (after x s)
+  after-both x y s =
+      ap (λ (l : List (OrderOn ℕ)). runOf (map orderOf l) s) (map-append (renamed (cellOf n m)) x y)
+      ∙ ap (λ (l : List Order). runOf l s) (map-append orderOf (map (renamed (cellOf n m)) x) (map (renamed (cellOf n m)) y))
+      ∙ run-append (map orderOf (map (renamed (cellOf n m)) x)) (map orderOf (map (renamed (cellOf n m)) y)) s
+
+  -- ---- the last phase: 0 in the first k scratch cells
+
   -- the sheet s with 0 in the first k scratch cells
   abbrev zeroed : ℕ → List ℕ → List ℕ
-  zeroed k s = runOf (map orderOf (loop k (zeroBlock n m))) s
+  zeroed k s = after (loop k zeroBlock) s
 
   zeroed-next : (k : ℕ) (s : List ℕ) → zeroed (suc k) s ≡ set (zeroed k s) (firstScratch n m + k) 0
   unfolding runOf
-  zeroed-next k s = run-parts (loop k (zeroBlock n m)) (zeroBlock n m k) s
+  zeroed-next k s = after-both (loop k zeroBlock) (zeroBlock k) s ∙ ap (λ (c : ℕ). set (zeroed k s) c 0) (zero-cell n m k)
 
   zeroed-in : (k : ℕ) (s : List ℕ) (c : ℕ) → firstScratch n m + k ≤ length s → firstScratch n m ≤ c → c < firstScratch n m + k → cell (zeroed k s) c ≡ 0
   zeroed-in zero s c f h l = omega arith
@@ -64,7 +73,7 @@ module _ (n m : ℕ) where
       go (less b) ih = getD-set-other (zeroed k s) (firstScratch n m + k) c 0 0 (omega arith) ∙ ih b
       go (more b) ih =
           let e : c ≡ firstScratch n m + k = omega arith in
-          rw e (getD-set-same (zeroed k s) (firstScratch n m + k) 0 0 (omega (arith, run-length (loop k (zeroBlock n m)) s)))
+          rw e (getD-set-same (zeroed k s) (firstScratch n m + k) 0 0 (omega (arith, run-length (map (renamed (cellOf n m)) (loop k zeroBlock)) s)))
 
   zeroed-out : (k : ℕ) (s : List ℕ) (c : ℕ) → ((j : ℕ) → j < k → c ≢ firstScratch n m + j) → cell (zeroed k s) c ≡ cell s c
   unfolding runOf
@@ -87,7 +96,7 @@ module _ (B : Book) (sound : Sound B) where
 
   -- the sheet after the work
   unfoldable worked : List ℕ
-  worked = runOf (map orderOf (map (renamed (cellOf (B .n) (B .m))) (flat (work (B .n) (B .m))))) sealed
+  worked = after (B .n) (B .m) (flat (work (B .n) (B .m))) sealed
 
   -- the sheet after the plan
   abbrev clearedSheet : List ℕ
@@ -96,12 +105,11 @@ module _ (B : Book) (sound : Sound B) where
   room : firstScratch (B .n) (B .m) + scratchCount (B .n) (B .m) ≤ cellCount
   room = names-fit (B .n) (B .m) (sound .bids) (sound .pools)
 
-  few-pools : B .m < modulus
-  few-pools = omega (arith, sound .pools)
-
   cleared-is : clearedSheet ≡ zeroed (B .n) (B .m) (scratchCount (B .n) (B .m)) worked
-  unfolding worked plan
-  cleared-is = run-parts (map (renamed (cellOf (B .n) (B .m))) (flat (work (B .n) (B .m)))) (loop (scratchCount (B .n) (B .m)) (zeroBlock (B .n) (B .m))) sealed
+  unfolding worked plan table
+  cleared-is =
+      ap (λ (l : List (OrderOn Name)). after (B .n) (B .m) l sealed) (flat-last (work (B .n) (B .m)) (zeroPhase (B .n) (B .m)))
+      ∙ after-both (B .n) (B .m) (flat (work (B .n) (B .m))) (loop (scratchCount (B .n) (B .m)) zeroBlock) sealed
 
   worked-length : length worked ≡ cellCount
   unfolding worked
@@ -114,7 +122,7 @@ module _ (B : Book) (sound : Sound B) where
       (address-apart (rowsOf (B .n) (B .m)) (columnsOf (B .n) (B .m)) familyCount) (address-below (rowsOf (B .n) (B .m)) (columnsOf (B .n) (B .m)) familyCount)
       (flat (work (B .n) (B .m)))
       (all-imply (Proper (B .n) (B .m)) (AllNamed (Valid (B .n) (B .m))) (proper-named (B .n) (B .m)) (flat (work (B .n) (B .m)))
-      (every-flat (Proper (B .n) (B .m)) (work (B .n) (B .m)) (work-proper (B .n) (B .m) few-pools)))
+      (each-flat (Proper (B .n) (B .m)) (work (B .n) (B .m)) (work-each (B .n) (B .m) (omega (arith, sound .pools)))))
       (sealedState B sound) sealed (omega (arith, from-end (B .n) (B .m), room, sealed-length B sound)) (λ c _. refl)
 
   -- a cell that the plan does not write
@@ -122,7 +130,7 @@ module _ (B : Book) (sound : Sound B) where
   unfolding plan
   untouched c h =
       run-other c (numbered (B .n) (B .m))
-      (all-imply (WritesWell (B .n) (B .m)) (λ o. target o ≢ c) (λ o w e. h (subst (Writable (B .n) (B .m)) e (w .0))) (numbered (B .n) (B .m)) (numbered-writes (B .n) (B .m) room few-pools))
+      (all-imply (WritesWell (B .n) (B .m)) (λ o. target o ≢ c) (λ o w e. h (subst (Writable (B .n) (B .m)) e (w .0))) (numbered (B .n) (B .m)) (numbered-writes (B .n) (B .m) (sound .bids) (sound .pools)))
       sealed
 
   -- the results, by their names

@@ -20,7 +20,7 @@ use Rattle.plan.specs.Subsets.{leaves, subsetSum}
 use Rattle.plan.specs.Running.{Adds, accumulate, gather, subsetBlock, subset-frame, subset-sums}
 use Rattle.plan.specs.Values.{tables, weight, demand, cut}
 use Rattle.plan.specs.Blocks.{demandTurn, cutTurn}
-use Rattle.plan.specs.Work.{demandBlock, subsetBlocks, cutBlock}
+use Rattle.plan.specs.Table.{demandBlock, subsetBlocks, cutBlock}
 use Rattle.plan.specs.Bounds.{weight-small, demands-small}
 
 -- a cell, or the zero cell where the test fails

@@ -24,7 +24,7 @@ use Rattle.plan.specs.Subsets.{leaves, subsetSum}
 use Rattle.plan.specs.Running.{accumulate, gather, Lowers, lower, lowered, subset-sums}
 use Rattle.plan.specs.Values.{tables, cut, usedAmount, placement, slack, restOf, flowOf, takenOf, slackAfter, lineFlow}
 use Rattle.plan.specs.Blocks.{Block, placementTurn, slackBlock, restCell, restTurn, takenCell, takeTurn}
-use Rattle.plan.specs.Work.{placementBlock, subsetBlocks, restBlock, takeBlock, lineBlock}
+use Rattle.plan.specs.Table.{placementBlock, subsetBlocks, restBlock, takeBlock, lineBlock}
 use Rattle.plan.specs.Cuts.{subsets-frame}
 use Rattle.plan.specs.Bounds.{sum-limit, used-small}
 

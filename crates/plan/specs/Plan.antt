@@ -1,14 +1,12 @@
--- The plan's length in closed form, its order at a position (`plan-entry`), and that each of its orders is one of the machine's and writes no input.
-use mathlib.Core.Path.{_≡_, refl, ap, _∙_}
-use mathlib.Core.Bool.{Bool, cond}
+-- The plan's length and the limit on it (`plan-length`, `plan-bound`), its order at a position (`plan-has`), and that each of its orders is one of the
+-- machine's and writes no input (`table-placed`, `plan-writes-no-input`).
+use mathlib.Core.Path.{_≡_, refl, _∙_}
 use mathlib.Core.List.{List, [], _∷_, map}
-use Prim.Native.Nat.{ℕ, zero, suc, _+_, _-_, _*_, _^_, _≤_, _<_}
+use Prim.Native.Nat.{ℕ, _+_, _*_, _^_, _≤_, _<_}
 use native.Mathlib.Nat.{mul-le-mul, mul-le-mul-left, pow-le-pow-left}
 use native.Mathlib.Omega.{arith}
-use lib.Dec.{ltb}
 use lib.Pow.{pow-mono}
-use lib.ListN.{length, getD, length-append, length-map, List·getD-append, List·getD-map}
-use lib.Seq.{getD-append-add}
+use lib.ListN.{length, getD, length-map}
 use Rattle.definitions.specs.declared.Order.{Order}
 use Rattle.definitions.specs.declared.Order.the-variants as unit
 use Rattle.definitions.specs.Limits.{bidLimit, poolLimit, cellCount, modulus}
@@ -16,27 +14,27 @@ use Rattle.definitions.specs.Arithmetic.{sumTo}
 use Rattle.definitions.specs.Sheet.{firstResult, firstScratch}
 use Rattle.definitions.specs.Machine.{WellFormed}
 use Rattle.definitions.specs.Outcome.{orderLimit}
-use Rattle.laws.specs.Tests.{Lt?, less, more, lt?}
 use Rattle.plan.specs.Orders.{OrderOn, constant, operate, Operation, adding, subtracting, multiplying, comparing, equating, target, orderOf, renamed, Name, at, family}
-use Rattle.plan.specs.Loops.{loop}
-use Rattle.plan.specs.Names.{amounts, temporaries, familyCount, rowsOf, columnsOf, ZeroCell}
+use Rattle.plan.specs.Names.{amounts, temporaries, Temporary, familyCount, rowsOf, columnsOf}
 use Rattle.plan.specs.Layout.{address-below, base-grows}
-use Rattle.plan.specs.Tree.{flat, size, entry, flat-length, flat-entry, length-loop, single-entry, All, all-append, all-loop, all-map, every-flat}
-use Rattle.plan.specs.Work.{work}
-unfoldable pub use Rattle.plan.specs.Numbered.{from, scratchCount, plan}
-pub use Rattle.plan.specs.Numbered.{cellOf, zeroBlock, numbered}
-use Rattle.plan.specs.Proper.{Valid, Proper, work-proper, work-fair}
+use Rattle.plan.specs.Entries.{All, all-map}
+use Rattle.plan.specs.Phased.{rowSize, tableSize, flat, flat-length, Has, has-map, EachPhase, each-flat, each-last}
+use Rattle.plan.specs.Table.{zeroPhase, work, table}
+unfoldable pub use Rattle.plan.specs.Table.{scratchCount}
+unfoldable pub use Rattle.plan.specs.Numbered.{from, plan}
+pub use Rattle.plan.specs.Numbered.{cellOf, numbered}
+use Rattle.plan.specs.Proper.{Valid, Proper, work-each}
 
-entry-any : (l : List Order) (x : ℕ) (d e : Order) → x < length l → getD l x d ≡ getD l x e
-entry-any [] x d e h = absurd (omega arith)
-entry-any (o ∷ l) zero d e h = refl
-entry-any (o ∷ l) (suc x) d e h = entry-any l x d e (omega arith)
+-- how many sets of pools there are at most
+pub power-small : (m : ℕ) → m ≤ poolLimit → 2 ^ m ≤ 2 ^ poolLimit
+power-small m k = pow-mono k
+
+-- at the limits every name has a cell of the sheet
+pub names-fit : (n m : ℕ) → n ≤ bidLimit → m ≤ poolLimit → firstScratch n m + scratchCount n m ≤ cellCount
+unfolding scratchCount
+names-fit n m h k = omega (arith, power-small m k, mul-le-mul h k, mul-le-mul k k)
 
 module _ (n m : ℕ) where
-  -- how many orders the plan has
-  unfoldable pub planLength : ℕ
-  planLength = n * n * (1 + 2 * m) + n * (29 + 17 * m + 12 * 2 ^ m) + (8 + 11 * m + 2 * (m * m) + 2 ^ m * (7 + 6 * (m * m)))
-
   -- ---- where results and scratch begin, and where the names end
 
   pub from-result : from n m amounts ≡ firstResult n m
@@ -51,68 +49,51 @@ module _ (n m : ℕ) where
   unfolding from sumTo scratchCount
   from-end = omega arith
 
+  -- the scratch cell that a zero of the last phase is for
+  pub zero-cell : (c : ℕ) → cellOf n m (Temporary c) ≡ firstScratch n m + c
+  unfolding from
+  zero-cell c = omega (arith, from-scratch)
+
   -- ---- the length
 
-  pub work-size : size (work n m) + scratchCount n m ≡ planLength
-  unfolding scratchCount planLength
-  work-size = omega arith
-
-  zeros-length : length (loop (scratchCount n m) (zeroBlock n m)) ≡ scratchCount n m
-  zeros-length = length-loop (scratchCount n m) (zeroBlock n m) 1 (λ k. refl) ∙ omega arith
-
-  pub plan-length : 0 < m → length (plan n m) ≡ planLength
+  pub plan-length : length (plan n m) ≡ tableSize (table n m)
   unfolding plan
-  plan-length h =
-      length-map (numbered n m) orderOf
-      ∙ length-append (map (renamed (cellOf n m)) (flat (work n m))) (loop (scratchCount n m) (zeroBlock n m))
-      ∙ omega (arith, length-map (flat (work n m)) (renamed (cellOf n m)), flat-length (work n m) (work-fair n m h), zeros-length, work-size)
+  plan-length = length-map (numbered n m) orderOf ∙ length-map (flat (table n m)) (renamed (cellOf n m)) ∙ flat-length (table n m)
+
+  -- in closed form
+  size-closed : tableSize (table n m) ≡ n * n * (1 + 2 * m) + n * (29 + 17 * m + 12 * 2 ^ m) + (8 + 11 * m + 2 * (m * m) + 2 ^ m * (7 + 6 * (m * m)))
+  unfolding tableSize rowSize table work sumTo scratchCount
+  size-closed = omega arith
+
+  -- demand 3's limit on the count of orders: with m ≥ 1 its power is at least 64, which is more than each bid needs
+  pub plan-bound : 0 < m → m ≤ poolLimit → length (plan n m) ≤ orderLimit n m
+  plan-bound p k = rw (plan-length, size-closed) (go (2 ^ m) ((m + 1) ^ 6) (power-small m k) (pow-le-pow-left {n = 2} {m = m + 1} (omega arith) 6))
+    where
+      go : (sets power : ℕ) → sets ≤ 2 ^ poolLimit → 2 ^ 6 ≤ power
+          → n * n * (1 + 2 * m) + n * (29 + 17 * m + 12 * sets) + (8 + 11 * m + 2 * (m * m) + sets * (7 + 6 * (m * m))) ≤ n * (100 * n + 40 * power) + 10000
+      go sets power a b =
+          omega (arith, mul-le-mul-left (n * n) k, mul-le-mul-left n k, mul-le-mul-left n a, mul-le-mul-left n b, mul-le-mul k k, mul-le-mul a (mul-le-mul k k))
 
   -- ---- the order at a position
 
-  -- the named order at a position of the work
-  unfoldable pub workAt : ℕ → OrderOn Name
-  workAt x = entry (work n m) x (constant ZeroCell 0)
-
-  -- how many orders the work has
-  unfoldable pub workLength : ℕ
-  workLength = size (work n m)
-
-  -- the order at a position: of the work, else the 0 of a scratch cell
-  unfoldable pub orderAt : ℕ → Order
-  orderAt x = orderOf (cond (ltb x workLength) (renamed (cellOf n m) (workAt x)) (constant (firstScratch n m + (x - workLength)) 0))
-
-  plan-entry-zero-cell : 0 < m → (x : ℕ) → x < planLength → getD (plan n m) x (orderOf (renamed (cellOf n m) (constant ZeroCell 0))) ≡ orderAt x
-  unfolding plan orderAt workAt workLength
-  plan-entry-zero-cell h x l =
-      List·getD-map orderOf (numbered n m) x (renamed (cellOf n m) (constant ZeroCell 0)) ∙ ap orderOf (go (lt? x (size (work n m))))
-    where
-      worked : List (OrderOn ℕ)
-      worked = map (renamed (cellOf n m)) (flat (work n m))
-
-      worked-length : length worked ≡ size (work n m)
-      worked-length = length-map (flat (work n m)) (renamed (cellOf n m)) ∙ flat-length (work n m) (work-fair n m h)
-
-      go : {t : Bool} → Lt? x (size (work n m)) t
-          → getD (numbered n m) x (renamed (cellOf n m) (constant ZeroCell 0)) ≡ cond t (renamed (cellOf n m) (entry (work n m) x (constant ZeroCell 0))) (constant (firstScratch n m + (x - size (work n m))) 0)
-      go (less c) =
-          List·getD-append worked (loop (scratchCount n m) (zeroBlock n m)) _ x (omega (arith, worked-length))
-          ∙ List·getD-map (renamed (cellOf n m)) (flat (work n m)) x (constant ZeroCell 0)
-          ∙ ap (renamed (cellOf n m)) (flat-entry (work n m) (work-fair n m h) x (constant ZeroCell 0) c)
-      go (more c) =
-          let w : x ≡ length worked + (x - size (work n m)) = omega (arith, worked-length) in
-          ap (λ (y : ℕ). getD (numbered n m) y (renamed (cellOf n m) (constant ZeroCell 0))) w
-          ∙ getD-append-add worked (loop (scratchCount n m) (zeroBlock n m)) (x - size (work n m)) (renamed (cellOf n m) (constant ZeroCell 0))
-          ∙ single-entry (scratchCount n m) (λ k. constant (firstScratch n m + k) 0) (x - size (work n m)) (renamed (cellOf n m) (constant ZeroCell 0)) (omega (arith, work-size))
-
-  -- whatever stands for an order past the end
-  pub plan-entry : 0 < m → (x : ℕ) → x < planLength → (d : Order) → getD (plan n m) x d ≡ orderAt x
-  plan-entry h x l d = entry-any (plan n m) x d _ (omega (arith, plan-length h)) ∙ plan-entry-zero-cell h x l
+  pub plan-has : (x : ℕ) (o : OrderOn Name) → Has (flat (table n m)) x o → Has (plan n m) x (orderOf (renamed (cellOf n m) o))
+  unfolding plan
+  plan-has x o h = has-map orderOf (numbered n m) x (renamed (cellOf n m) o) (has-map (renamed (cellOf n m)) (flat (table n m)) x o h)
 
   -- ---- every order is one of the machine's, and writes a result or scratch
 
   -- a cell of the results or of the scratch that has names
   abbrev pub Writable : ℕ → Type 0
   Writable c = (firstResult n m ≤ c) × (c < firstScratch n m + scratchCount n m)
+
+  -- a name of a family, with a cell of the sheet
+  abbrev pub Placed : Name → Type 0
+  Placed c = (family c < familyCount) × (cellOf n m c < cellCount)
+
+  -- an order on such cells, whose target may be written
+  abbrev pub PlacedOrder : OrderOn Name → Type 0
+  PlacedOrder (constant d k) = Placed d × Writable (cellOf n m d) × (k < modulus)
+  PlacedOrder (operate op d a b) = Placed d × Writable (cellOf n m d) × Placed a × Placed b
 
   name-below : (c : Name) → Valid n m c → cellOf n m c < firstScratch n m + scratchCount n m
   unfolding from
@@ -122,51 +103,42 @@ module _ (n m : ℕ) where
   unfolding from
   name-writable (at t i j) h l = (omega (arith, from-result, base-grows (rowsOf n m) (columnsOf n m) amounts t l), name-below (at t i j) h)
 
+  module _ (h : n ≤ bidLimit) (k : m ≤ poolLimit) where
+    name-placed : (c : Name) → Valid n m c → Placed c
+    name-placed (at t i j) v = (v .0, omega (arith, name-below (at t i j) v, names-fit n m h k))
+
+    proper-placed : (o : OrderOn Name) → Proper n m o → PlacedOrder o
+    proper-placed (constant d v) p = (name-placed d (p .0), name-writable d (p .0) (p .1), p .2)
+    proper-placed (operate op d a b) p = (name-placed d (p .0), name-writable d (p .0) (p .1), name-placed a (p .2), name-placed b (p .3))
+
+    zero-placed : (c : ℕ) → c < scratchCount n m → PlacedOrder (constant (Temporary c) 0)
+    zero-placed c l =
+        let e : cellOf n m (Temporary c) ≡ firstScratch n m + c = zero-cell c in
+        let room : firstScratch n m + scratchCount n m ≤ cellCount = names-fit n m h k in
+        ((omega arith, rw e (omega arith)), (rw e (omega arith), rw e (omega arith)), omega arith)
+
+    pub table-placed : EachPhase PlacedOrder (table n m)
+    unfolding table
+    table-placed = each-last (Proper n m) PlacedOrder proper-placed (work n m) (work-each n m (omega arith)) (zeroPhase n m) ((λ _ c _ l. (zero-placed c l, tt)), tt)
+
   -- one of the machine's orders, with a target that may be written
   abbrev pub WritesWell : OrderOn ℕ → Type 0
   WritesWell o = Writable (target o) × WellFormed (orderOf o)
 
-  module _ (room : firstScratch n m + scratchCount n m ≤ cellCount) where
-    name-cell : (c : Name) → Valid n m c → cellOf n m c < cellCount
-    name-cell c h = omega (arith, name-below c h)
+  pub placed-writes : (o : OrderOn Name) → PlacedOrder o → WritesWell (renamed (cellOf n m) o)
+  placed-writes (constant d v) p = (p .1, (p .0 .1, p .2))
+  placed-writes (operate op d a b) p = (p .1, go op)
+    where
+      go : (op : Operation) → WellFormed (orderOf (renamed (cellOf n m) (operate op d a b)))
+      go adding = (p .0 .1, p .2 .1, p .3 .1)
+      go subtracting = (p .0 .1, p .2 .1, p .3 .1)
+      go multiplying = (p .0 .1, p .2 .1, p .3 .1)
+      go comparing = (p .0 .1, p .2 .1, p .3 .1)
+      go equating = (p .0 .1, p .2 .1, p .3 .1)
 
-    proper-writes : (o : OrderOn Name) → Proper n m o → WritesWell (renamed (cellOf n m) o)
-    proper-writes (constant d k) h = (name-writable d (h .0) (h .1), (name-cell d (h .0), h .2))
-    proper-writes (operate op d a b) h = (name-writable d (h .0) (h .1), go op)
-      where
-        go : (op : Operation) → WellFormed (orderOf (renamed (cellOf n m) (operate op d a b)))
-        go adding = (name-cell d (h .0), name-cell a (h .2), name-cell b (h .3))
-        go subtracting = (name-cell d (h .0), name-cell a (h .2), name-cell b (h .3))
-        go multiplying = (name-cell d (h .0), name-cell a (h .2), name-cell b (h .3))
-        go comparing = (name-cell d (h .0), name-cell a (h .2), name-cell b (h .3))
-        go equating = (name-cell d (h .0), name-cell a (h .2), name-cell b (h .3))
-
-    zero-writes : (k : ℕ) → k < scratchCount n m → All WritesWell (zeroBlock n m k)
-    zero-writes k l = (((omega arith, omega arith), (omega arith, omega arith)), tt)
-
-    pub numbered-writes : m < modulus → All WritesWell (numbered n m)
-    numbered-writes h =
-        all-append WritesWell (map (renamed (cellOf n m)) (flat (work n m))) (loop (scratchCount n m) (zeroBlock n m))
-        (all-map (Proper n m) WritesWell (renamed (cellOf n m)) proper-writes (flat (work n m)) (every-flat (Proper n m) (work n m) (work-proper n m h)))
-        (all-loop WritesWell (scratchCount n m) (zeroBlock n m) zero-writes)
-
--- how many sets of pools there are at most
-pub power-small : (m : ℕ) → m ≤ poolLimit → 2 ^ m ≤ 2 ^ poolLimit
-power-small m k = pow-mono k
-
--- at the limits every name has a cell of the sheet
-pub names-fit : (n m : ℕ) → n ≤ bidLimit → m ≤ poolLimit → firstScratch n m + scratchCount n m ≤ cellCount
-unfolding scratchCount
-names-fit n m h k = omega (arith, power-small m k, mul-le-mul h k, mul-le-mul k k)
-
--- demand 3's limit on the count of orders: with m ≥ 1 its power is at least 64, which is more than each bid needs
-pub plan-bound : (n m : ℕ) → 0 < m → m ≤ poolLimit → planLength n m ≤ orderLimit n m
-unfolding planLength
-plan-bound n m p k = go (2 ^ m) ((m + 1) ^ 6) (power-small m k) (pow-le-pow-left {n = 2} {m = m + 1} (omega arith) 6)
-  where
-    go : (sets power : ℕ) → sets ≤ 2 ^ poolLimit → 2 ^ 6 ≤ power
-        → n * n * (1 + 2 * m) + n * (29 + 17 * m + 12 * sets) + (8 + 11 * m + 2 * (m * m) + sets * (7 + 6 * (m * m))) ≤ n * (100 * n + 40 * power) + 10000
-    go sets power a b = omega (arith, mul-le-mul-left (n * n) k, mul-le-mul-left n k, mul-le-mul-left n a, mul-le-mul-left n b, mul-le-mul k k, mul-le-mul a (mul-le-mul k k))
+  pub numbered-writes : n ≤ bidLimit → m ≤ poolLimit → All WritesWell (numbered n m)
+  numbered-writes h k =
+      all-map PlacedOrder WritesWell (renamed (cellOf n m)) placed-writes (flat (table n m)) (each-flat PlacedOrder (table n m) (table-placed h k))
 
 -- the target of one of the machine's orders
 abbrev pub targetOf : Order → ℕ
@@ -193,4 +165,4 @@ pub plan-writes-no-input : (n m : ℕ) → n ≤ bidLimit → m ≤ poolLimit �
 unfolding plan
 plan-writes-no-input n m h k =
     all-map (WritesWell n m) (WritesNoInput n m) orderOf (λ o w. (w .1, rw (target-is o) (w .0 .0))) (numbered n m)
-    (numbered-writes n m (names-fit n m h k) (omega arith))
+    (numbered-writes n m h k)

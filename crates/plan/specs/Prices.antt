@@ -20,7 +20,7 @@ use Rattle.plan.specs.Names.{zeroCells, units, shifts, sides, positivePr
 use Rattle.plan.specs.Running.{Raises, raise}
 use Rattle.plan.specs.Values.{tables, rate, acceptedAmount, offer, peak, priceCells}
 use Rattle.plan.specs.Blocks.{offerBlock, highestOfferTurn, priceBlock}
-use Rattle.plan.specs.Work.{highestOfferBlock}
+use Rattle.plan.specs.Table.{highestOfferBlock}
 use Rattle.plan.specs.Bounds.{accepted-small, offer-small}
 
 -- two tests and a number, by products

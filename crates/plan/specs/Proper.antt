@@ -1,4 +1,4 @@
--- Every order of the work names cells of the families' tables and writes no input (`work-proper`); each loop's blocks have one length (`work-fair`).
+-- Every order of the work names cells of the families' tables and writes no input (`work-each`).
 use mathlib.Core.Path.{refl}
 use mathlib.Core.Bool.{Bool, true, false, cond}
 use mathlib.Core.List.{[], _∷_}
@@ -11,11 +11,13 @@ use Rattle.plan.specs.Orders.{OrderOn, constant, operate, Name, at, fami
 use Rattle.plan.specs.Layout.{Named}
 use Rattle.plan.specs.Names.{amounts, ranksBefore, ranksWith, familyCount, rowsOf, columnsOf, Capacity, Temporary, ZeroCell, Demand, SizeBefore, SizeWith, Placement}
 use Rattle.plan.specs.Subsets.{leaves, lowest, others, lowest-below, others-below}
-use Rattle.plan.specs.Running.{subsetOrder, lowered}
-use Rattle.plan.specs.Blocks.{testAt, testOrder, restCell, takenCell}
+use Rattle.plan.specs.Running.{subsetOrder, subsetBlock, lowered}
+use Rattle.plan.specs.Blocks.{cutTurn, testAt, testOrder, gainTurn, costTurn, restStart, restCell, restTurn, flowBlock, takenCell, takeTurn}
 use Rattle.plan.specs.Lines.{line-ends}
-use Rattle.plan.specs.Tree.{All, Every, Fair}
-use Rattle.plan.specs.Work.{bidTree, cutsTree, subsetTree, rankTree, rankTrees, flowTree, lineTree, priceTree, work}
+use Rattle.plan.specs.Loops.{loop}
+use Rattle.plan.specs.Entries.{_&_, All, all-loop}
+use Rattle.plan.specs.Phased.{EachPhase}
+use Rattle.plan.specs.Table.{cutBlock, sizeBeforeTurn, work}
 
 module _ (n m : ℕ) where
   -- a name that has a cell
@@ -31,7 +33,7 @@ module _ (n m : ℕ) where
   chosen-valid true c h = h
   chosen-valid false c h = omega arith
 
-  subset-proper : (X : ℕ → Name) → ((p : ℕ) → p < m → Valid (X p)) → Every Proper (subsetTree n m X)
+  subset-proper : (X : ℕ → Name) → ((p : ℕ) → p < m → Valid (X p)) → (S : ℕ) → S < 2 ^ m → All Proper (subsetBlock m X S)
   subset-proper X ok S l = go (eq? S 0)
     where
       go : {z : Bool} → Eq? S 0 z → All Proper (subsetOrder z m X S ∷ [])
@@ -39,66 +41,97 @@ module _ (n m : ℕ) where
       go (diff e) = let other : others m S < 2 ^ m = omega (arith, others-below m S (omega arith) l) in
           ((omega arith, omega arith, omega arith, ok (lowest m S) (lowest-below m S (omega arith) l)), tt)
 
-  test-proper : (i j : ℕ) → i < n → j < n → All Proper (testOrder i j ∷ [])
+  cut-proper : (S : ℕ) → S < 2 ^ m → All Proper (cutBlock n m S)
+  cut-proper S l = (
+    omega arith,
+    all-loop Proper m (λ a. loop m (cutTurn S a)) (λ a x. all-loop Proper m (cutTurn S a)
+        (λ b y. ((omega arith, omega arith, omega arith, chosen-valid (leaves S a b) (Capacity a b) (omega arith)), tt))),
+  )
+
+  test-proper : (i j : ℕ) → i < n → j < n → Proper (testOrder i j)
   test-proper i j a b = go (ltb j i) (ltb i j)
     where
-      go : (x y : Bool) → All Proper (testAt x y i j ∷ [])
+      go : (x y : Bool) → Proper (testAt x y i j)
       go true y = omega arith
       go false true = omega arith
       go false false = omega arith
 
-  rank-proper : (X : ℕ → Name) (u i : ℕ) → ((p : ℕ) → p < m → Valid (X p)) → Valid (at u i 0) → amounts ≤ u → Every Proper (rankTree n m X (at u i 0))
-  rank-proper X u i ok v h = (subset-proper X ok, (((v, h, omega arith), tt), λ S l. ((omega arith, omega arith, omega arith, omega arith), ((omega arith, omega arith, omega arith, v), ((omega arith, omega arith, omega arith, v), ((omega arith, omega arith, omega arith, omega arith), ((v, h, v, omega arith), tt)))))))
+  turn-proper : (i j : ℕ) → i < n → j < n → All Proper (sizeBeforeTurn n m i j)
+  turn-proper i j a b = (test-proper i j a b, all-loop Proper m (gainTurn i j) (λ p l. omega arith))
 
-  line-proper : (l : ℕ) → l < m * m → Every Proper (lineTree n m l)
-  line-proper l h = (
-    (((omega arith, omega arith, (omega arith, la, lb), omega arith), tt), λ S c. rest-proper (leaves S a b) S c),
-    (((omega arith, omega arith, (omega arith, la, lb), omega arith), tt), λ S c. ((omega arith, omega arith, omega arith, taken-valid (leaves S a b) (leaves S b a)), tt)),
-  )
-    where
-      a : ℕ
-      a = l / m
+  -- a cost in cell i of family u
+  cost-proper : (u i S : ℕ) → Valid (at u i 0) → amounts ≤ u → S < 2 ^ m → All Proper (costTurn m (at u i 0) S)
+  cost-proper u i S v h l =
+      omega arith
+      & (omega arith, omega arith, omega arith, v)
+      & (omega arith, omega arith, omega arith, v)
+      & omega arith
+      & (v, h, v, omega arith)
+      & tt
 
-      b : ℕ
-      b = l % m
+  -- ---- line l
 
-      la : a < m
-      la = line-ends m l h .0
+  module _ (l : ℕ) (h : l < m * m) where
+    -- its ends
+    abbrev a : ℕ
+    a = l / m
 
-      lb : b < m
-      lb = line-ends m l h .1
+    abbrev b : ℕ
+    b = l % m
 
-      rest-valid : (x : Bool) (S : ℕ) → S < 2 ^ m → Valid (restCell x S a b)
-      rest-valid true S c = omega arith
-      rest-valid false S c = (omega arith, la, lb)
+    capacity-valid : Valid (Capacity a b)
+    capacity-valid = (omega arith, line-ends m l h .0, line-ends m l h .1)
 
-      rest-proper : (x : Bool) (S : ℕ) → S < 2 ^ m → All Proper (lowered (Temporary 2) (restCell x S a b))
-      rest-proper x S c = ((omega arith, omega arith, rest-valid x S c, omega arith), ((omega arith, omega arith, rest-valid x S c, omega arith), omega arith))
+    -- its first order, and that of its flow
+    line-proper : All Proper (restStart a b) × All Proper (flowBlock l a b)
+    line-proper = (((omega arith, omega arith, capacity-valid, omega arith), tt), ((omega arith, omega arith, capacity-valid, omega arith), tt))
 
-      taken-valid : (x y : Bool) → Valid (takenCell x y l)
-      taken-valid true y = omega arith
-      taken-valid false true = omega arith
-      taken-valid false false = omega arith
+    rest-proper : (S : ℕ) → S < 2 ^ m → All Proper (restTurn a b S)
+    rest-proper S c = go (leaves S a b)
+      where
+        rest-valid : (x : Bool) → Valid (restCell x S a b)
+        rest-valid true = omega arith
+        rest-valid false = capacity-valid
 
-  bid-proper : m < modulus → Every Proper (bidTree n m)
-  bid-proper h = ((λ i l. omega arith), ((λ i l. omega arith), ((λ i l. omega arith), ((λ i l. omega arith), ((λ i l. omega arith), ((λ i l. omega arith), ((λ i l. omega arith), ((λ i l. omega arith), λ i l. omega arith))))))))
+        go : (x : Bool) → All Proper (lowered (Temporary 2) (restCell x S a b))
+        go x = (omega arith, omega arith, rest-valid x, omega arith) & (omega arith, omega arith, rest-valid x, omega arith) & omega arith
 
-  cut-proper : Every Proper (cutsTree n m)
-  cut-proper = ((λ i l p b. omega arith), ((λ i l p b. omega arith), ((λ p b. (omega arith, λ i l. omega arith)), (subset-proper Demand (λ p b. omega arith), λ S l. (omega arith, λ a x b y. ((omega arith, omega arith, omega arith, chosen-valid (leaves S a b) (Capacity a b) (omega arith)), tt))))))
+    take-proper : (S : ℕ) → S < 2 ^ m → All Proper (takeTurn l a b S)
+    take-proper S c = ((omega arith, omega arith, omega arith, go (leaves S a b) (leaves S b a)), tt)
+      where
+        go : (x y : Bool) → Valid (takenCell x y l)
+        go true y = omega arith
+        go false true = omega arith
+        go false false = omega arith
 
-  ranks-proper : Every Proper (rankTrees n m)
-  ranks-proper = ((λ i l. ((λ p b. omega arith), λ j k. (test-proper i j l k, λ p b. omega arith))), ((λ i l. rank-proper (SizeBefore i) ranksBefore i (λ p b. omega arith) (omega arith) (omega arith)), ((λ i l p b. omega arith), ((λ i l. rank-proper (SizeWith i) ranksWith i (λ p b. omega arith) (omega arith) (omega arith)), ((λ i l. omega arith), λ i l. omega arith)))))
+  -- ---- the table
 
-  flow-proper : Every Proper (flowTree n m)
-  flow-proper = ((λ p b. (omega arith, λ i l. omega arith)), ((subset-proper Placement (λ p b. omega arith), λ S l. omega arith), line-proper))
-
-  price-proper : Every Proper (priceTree n m)
-  price-proper = ((λ i l. omega arith), ((λ p b. (omega arith, λ i l. (omega arith, omega arith))), λ p b. omega arith))
-
-  pub work-proper : m < modulus → Every Proper (work n m)
-  work-proper h = (bid-proper h, (cut-proper, (ranks-proper, (flow-proper, price-proper))))
-
-  -- ---- the blocks' lengths
-
-  pub work-fair : 0 < m → Fair (work n m)
-  work-fair h = (((lit< tt, λ i. (refl, tt)), ((lit< tt, λ i. (refl, tt)), ((lit< tt, λ i. (refl, tt)), ((lit< tt, λ i. (refl, tt)), ((lit< tt, λ i. (refl, tt)), ((lit< tt, λ i. (refl, tt)), ((lit< tt, λ i. (refl, tt)), ((lit< tt, λ i. (refl, tt)), (lit< tt, λ i. (refl, tt)))))))))), (((omega arith, λ i. (refl, (lit< tt, λ p. (refl, tt)))), ((omega arith, λ i. (refl, (lit< tt, λ p. (refl, tt)))), ((omega arith, λ p. (refl, (tt, (lit< tt, λ i. (refl, tt))))), ((lit< tt, λ i. (refl, tt)), (omega arith, λ S. (refl, (tt, (omega arith, λ i. (refl, (lit< tt, λ p. (refl, tt))))))))))), (((omega arith, λ i. (refl, ((lit< tt, λ i. (refl, tt)), (omega arith, λ j. (refl, (tt, (lit< tt, λ i. (refl, tt)))))))), ((omega arith, λ i. (refl, ((lit< tt, λ i. (refl, tt)), (tt, (lit< tt, λ i. (refl, tt)))))), ((omega arith, λ i. (refl, (lit< tt, λ p. (refl, tt)))), ((omega arith, λ i. (refl, ((lit< tt, λ i. (refl, tt)), (tt, (lit< tt, λ i. (refl, tt)))))), ((lit< tt, λ i. (refl, tt)), (lit< tt, λ i. (refl, tt))))))), (((omega arith, λ p. (refl, (tt, (lit< tt, λ i. (refl, tt))))), (((lit< tt, λ i. (refl, tt)), (lit< tt, λ i. (refl, tt))), (omega arith, λ l. (refl, ((tt, (lit< tt, λ i. (refl, tt))), (tt, (lit< tt, λ i. (refl, tt)))))))), ((lit< tt, λ i. (refl, tt)), ((omega arith, λ p. (refl, (tt, (lit< tt, λ i. (refl, tt))))), (lit< tt, λ i. (refl, tt))))))))
+  pub work-each : m < modulus → EachPhase Proper (work n m)
+  unfolding work
+  work-each h =
+      ((λ i j a b. omega arith) & tt)
+      & ((λ i j a b. omega arith) & tt)
+      & ((λ p j a b. omega arith) & tt)
+      & ((λ i j a b. omega arith) & tt)
+      & ((λ i j a b. omega arith) & tt)
+      & ((λ i j a b. omega arith) & tt)
+      & ((λ i j a b. omega arith) & tt)
+      & ((λ i j a b. omega arith) & tt)
+      & ((λ i j a b. omega arith) & tt)
+      & ((λ i p a b. omega arith) & tt)
+      & ((λ i p a b. omega arith) & tt)
+      & ((λ p j a b. omega arith) & (λ p i a b. omega arith) & tt)
+      & ((λ _ S a b. subset-proper Demand (λ p l. omega arith) S b) & (λ _ S a b. cut-proper S b) & tt)
+      & ((λ i p a b. omega arith) & turn-proper & tt)
+      & ((λ i S a b. subset-proper (SizeBefore i) (λ p l. omega arith) S b) & (λ i j a b. omega arith) & (λ i S a b. cost-proper ranksBefore i S (omega arith) (omega arith) b) & tt)
+      & ((λ i p a b. omega arith) & tt)
+      & ((λ i S a b. subset-proper (SizeWith i) (λ p l. omega arith) S b) & (λ i j a b. omega arith) & (λ i S a b. cost-proper ranksWith i S (omega arith) (omega arith) b) & tt)
+      & ((λ i j a b. omega arith) & tt)
+      & ((λ i j a b. omega arith) & tt)
+      & ((λ p j a b. omega arith) & (λ p i a b. omega arith) & tt)
+      & ((λ _ S a b. subset-proper Placement (λ p l. omega arith) S b) & (λ _ S a b. omega arith) & tt)
+      & ((λ l j a b. line-proper l a .0) & (λ l S a b. rest-proper l a S b) & (λ l j a b. line-proper l a .1) & (λ l S a b. take-proper l a S b) & tt)
+      & ((λ i j a b. omega arith) & tt)
+      & ((λ p j a b. omega arith) & (λ p i a b. omega arith & omega arith) & tt)
+      & ((λ p j a b. omega arith) & tt)
+      & tt

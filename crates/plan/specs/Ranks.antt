@@ -24,7 +24,7 @@ use Rattle.plan.specs.Subsets.{member, complement, subsetSum, subset-out
 use Rattle.plan.specs.Running.{Lowers, lower, subset-sums}
 use Rattle.plan.specs.Values.{tables, rate, key, weight, cut, ahead, reach, rank, usedAmount, acceptedAmount}
 use Rattle.plan.specs.Blocks.{Block, testAt, testOrder, gainTurn, sizeBeforeStart, costTurn, sizeWithBlock, useBlock, amountBlock}
-use Rattle.plan.specs.Work.{sizeBeforeTurn, sizeBeforeBlock, subsetBlocks, costBlock, rankBlock}
+use Rattle.plan.specs.Table.{sizeBeforeTurn, sizeBeforeBlock, subsetBlocks, costBlock, rankBlock}
 use Rattle.plan.specs.Merit.{keyTest, test-is-before}
 use Rattle.plan.specs.Cuts.{subsets-frame}
 use Rattle.plan.specs.Bounds.{sum-limit, weight-small, reach-small, set-cost-small, rank-small}

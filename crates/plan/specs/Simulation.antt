@@ -10,7 +10,7 @@ use lib.Seq.{getD-set-same, getD-set-other}
 use Rattle.definitions.specs.Machine.{cell, stepOf, runOf}
 use Rattle.plan.specs.Orders.{OrderOn, constant, operate, target, outcome, result, orderOf, step-is, renamed, Name, same, State, update, step, run}
 use Rattle.plan.specs.Loops.{same-self, same-equal}
-use Rattle.plan.specs.Tree.{All}
+use Rattle.plan.specs.Entries.{All}
 
 -- ---- the run of a list of the unit's orders
 

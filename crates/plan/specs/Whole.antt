@@ -1,4 +1,4 @@
--- The whole work on names: from the inputs to the results (`work-done`).
+-- The whole work on names, phase after phase of the table: from the inputs to the results (`work-done`).
 use mathlib.Core.Path.{refl}
 use mathlib.Core.List.{List, [], _∷_}
 use Prim.Native.Nat.{ℕ}
@@ -13,8 +13,8 @@ use Rattle.plan.specs.Cuts.{demand-phase, cut-phase}
 use Rattle.plan.specs.Ranks.{size-before-phase, rank-before-phase, size-with-phase, rank-with-phase, use-phase, amount-phase}
 use Rattle.plan.specs.Lines.{placement-phase, slack-phase, flow-phase}
 use Rattle.plan.specs.Prices.{offer-phase, highest-offer-phase, price-phase}
-use Rattle.plan.specs.Tree.{flat}
-use Rattle.plan.specs.Work.{work}
+use Rattle.plan.specs.Phased.{flat}
+use Rattle.plan.specs.Table.{work}
 
 -- what a sealed sheet holds
 abbrev pub inputs : List ℕ
@@ -26,9 +26,9 @@ outputs = bids ∷ capacities ∷ amounts ∷ flows ∷ prices ∷ []
 
 module _ (B : Book) (sound : Sound B) where
   all-steps : Step (tables B) inputs outputs (flat (work (B .n) (B .m)))
+  unfolding work
   all-steps =
       step-part (tables B) outputs
-      (then (tables B)
       (then (tables B) (phase-step (tables B) _ (unit-phase B sound) refl)
       (then (tables B) (phase-step (tables B) _ (shift-phase B sound) refl)
       (then (tables B) (phase-step (tables B) _ (pool-number-phase B sound) refl)
@@ -37,26 +37,23 @@ module _ (B : Book) (sound : Sound B) where
       (then (tables B) (phase-step (tables B) _ (positive-price-phase B sound) refl)
       (then (tables B) (phase-step (tables B) _ (double-phase B sound) refl)
       (then (tables B) (phase-step (tables B) _ (key-phase B sound) refl)
-      (phase-step (tables B) _ (next-phase B sound) refl)))))))))
-      (then (tables B)
+      (then (tables B) (phase-step (tables B) _ (next-phase B sound) refl)
       (then (tables B) (phase-step (tables B) _ (membership-phase B sound) refl)
       (then (tables B) (phase-step (tables B) _ (pool-size-phase B sound) refl)
       (then (tables B) (phase-step (tables B) _ (demand-phase B sound) refl)
-      (phase-step (tables B) _ (cut-phase B sound) refl))))
-      (then (tables B)
+      (then (tables B) (phase-step (tables B) _ (cut-phase B sound) refl)
       (then (tables B) (phase-step (tables B) _ (size-before-phase B sound) refl)
       (then (tables B) (phase-step (tables B) _ (rank-before-phase B sound) refl)
       (then (tables B) (phase-step (tables B) _ (size-with-phase B sound) refl)
       (then (tables B) (phase-step (tables B) _ (rank-with-phase B sound) refl)
       (then (tables B) (phase-step (tables B) _ (use-phase B sound) refl)
-      (phase-step (tables B) _ (amount-phase B sound) refl))))))
-      (then (tables B)
+      (then (tables B) (phase-step (tables B) _ (amount-phase B sound) refl)
       (then (tables B) (phase-step (tables B) _ (placement-phase B sound) refl)
       (then (tables B) (phase-step (tables B) _ (slack-phase B sound) refl)
-      (phase-step (tables B) _ (flow-phase B sound) refl)))
+      (then (tables B) (phase-step (tables B) _ (flow-phase B sound) refl)
       (then (tables B) (phase-step (tables B) _ (offer-phase B sound) refl)
       (then (tables B) (phase-step (tables B) _ (highest-offer-phase B sound) refl)
-      (phase-step (tables B) _ (price-phase B sound) refl)))))))
+      (phase-step (tables B) _ (price-phase B sound) refl)))))))))))))))))))))))))
       refl
 
   pub work-done : (s : State) → Holds (tables B) inputs s → Holds (tables B) outputs (run (flat (work (B .n) (B .m))) s)

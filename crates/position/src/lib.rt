@@ -43,7 +43,7 @@ impl Position {
         if !is_accepted(counts) {
             return counts;
         }
-        if layout::plan_length(n, m) < at {
+        if orders::plan_length(n, m) < at {
             return Verdict::Position;
         }
         Verdict::Accepted
@@ -85,7 +85,7 @@ impl Plan {
     {
         Total {
             verdict: judge_counts(n, m),
-            orders: layout::plan_length(n, m),
+            orders: orders::plan_length(n, m),
         }
     }
 }

@@ -1,15 +1,16 @@
 -- `rows_of` meets its contract: the table is that of the layout, its products named.
 use mathlib.Core.Path.{ap}
 use Prim.Native.Nat.{ℕ, _*_}
+use native.Mathlib.Nat.{mul-le-mul}
 use native.Mathlib.Omega.{arith}
 use borrow.Author.Needs.{needs}
 use Rattle.plan.specs.Names.{rowTable}
-use Rattle.layout.specs.Lengths.{product-small, subsets-within}
+use Rattle.layout.specs.Sets.{subsets-within}
 use Rattle.layout.proofs.rows_of.Statement.{statement}
 use Rattle.layout.proofs.rows_of.Tie as tie
 
 mul-lines : tie.Need-mul-lines
-mul-lines c = omega (arith, product-small (c .args .m) (c .args .m) 4 4 (c .pre) (c .pre))
+mul-lines c = omega (arith, mul-le-mul (c .pre) (c .pre))
 
 subset-count-requires : tie.Need-subset-count-requires
 subset-count-requires c κs = search needs

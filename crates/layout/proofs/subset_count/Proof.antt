@@ -3,7 +3,7 @@ use mathlib.Core.Path.{refl, sym}
 use native.Mathlib.Omega.{arith}
 use borrow.Author.Needs.{needs}
 use Rattle.plan.specs.Plan.{power-small}
-use Rattle.layout.specs.Lengths.{subsets-within, subsets-beyond}
+use Rattle.layout.specs.Sets.{subsets-within, subsets-beyond}
 use Rattle.layout.proofs.subset_count.Statement.{statement}
 use Rattle.layout.proofs.subset_count.Tie as tie
 

@@ -1,28 +1,32 @@
--- `order_at` meets its contract: before the total the counts are accepted and the plan has an order, from it on there is nothing.
-use mathlib.Core.Path.{_≡_, ap, _∙_}
-use Prim.Native.Nat.{_<_}
+-- `order_at` meets its contract: the counts are judged first; if they pass, the tables are those of the plan.
+use mathlib.Core.Path.{_≡_}
 use native.Mathlib.Omega.{arith}
 use borrow.Author.Needs.{needs}
-use Rattle.definitions.specs.declared.Order.{Order}
 use Rattle.definitions.specs.Answers.{none}
 use Rattle.definitions.specs.Calls.{countsRefusal}
-use Rattle.definitions.specs.Plan.{total}
+use Rattle.laws.specs.Sizes.{Counts, counted}
+use Rattle.laws.specs.Search.{turned-away, let-through}
 use Rattle.plan.specs.Plan.{plan}
-use Rattle.plan.specs.Asking.{total-accepted}
+use Rattle.plan.specs.Asking.{total-refused}
 use Rattle.layout.specs.Tables.{starts-accepted}
-use Rattle.orders.specs.Entry.{entry-before, entry-after, counts-before}
-use Rattle.orders.specs.declared.Entry.the-variants as case
+use Rattle.orders.specs.Entry.{entry-after}
 use Rattle.orders.proofs.order_at.Statement.{statement}
 use Rattle.orders.proofs.order_at.Tie as tie
 
-plan-length-requires : tie.Need-plan-length-requires
-plan-length-requires c κs = search needs
+judge-counts-requires : tie.Need-judge-counts-requires
+judge-counts-requires c κs = search needs
 
-before-total : (c : tie.Then1) → let a = c .before .before .args in a .at < total plan (a .n) (a .m)
-before-total c = omega (arith, c .if1 .taken, c .before .plan-length .ensures)
+is-accepted-requires : tie.Need-is-accepted-requires
+is-accepted-requires c κs = search needs
 
-passed : (c : tie.Then1) → let a = c .before .before .args in countsRefusal (a .n) (a .m) ≡ none
-passed c = let a = c .before .before .args in counts-before plan (a .n) (a .m) (a .at) (before-total c)
+returns : tie.Need-returns
+returns c =
+    let a = c .before .before .before .args in
+    let refused = turned-away (c .before .before .judge-counts .ensures) (c .before .is-accepted .ensures) (c .if1 .taken) in
+    entry-after plan (a .n) (a .m) (a .at) (omega (arith, total-refused plan (a .n) (a .m) refused))
+
+passed : (c : tie.Else1) → let a = c .before .before .before .args in countsRefusal (a .n) (a .m) ≡ none
+passed c = let-through (c .before .before .judge-counts .ensures) (c .before .is-accepted .ensures) (c .if1 .left)
 
 starts-of-requires : tie.Need-starts-of-requires
 starts-of-requires c κs = search needs
@@ -30,35 +34,33 @@ starts-of-requires c κs = search needs
 columns-of-requires : tie.Need-columns-of-requires
 columns-of-requires c κs = search needs
 
+sizes-of-requires : tie.Need-sizes-of-requires
+sizes-of-requires c κs =
+    let a = c .before .before .before .before .before .args in
+    let limits : Counts (a .n) (a .m) = counted _ _ (passed (c .before .before)) in
+    search needs
+
 order-in-requires : tie.Need-order-in-requires
 order-in-requires c κs =
-    let then = c .before .before .before .before in
-    let a = then .before .before .args in (
-      passed then,
-      (
-        record { begin = starts-accepted (a .n) (a .m) (c .before .before .before .starts-of .result) (passed then) (c .before .before .before .starts-of .ensures); columns-are = c .before .before .columns-of .ensures },
-        omega (arith, before-total then, total-accepted plan (a .n) (a .m) (passed then)),
-      ),
-    )
-
-returns : tie.Need-returns
-returns c =
-    let then = c .before .before .before .before .before in
-    let a = then .before .before .args in
-    ap (λ (o : Order). case.Order o) (c .order-in .ensures) ∙ entry-before plan (a .n) (a .m) (a .at) (before-total then)
+    let sizes = c .before .before .before in
+    let starts = sizes .before .before in
+    let a = starts .before .before .before .before .args in
+    let counts = passed (starts .before) in
+    let begin = starts-accepted (a .n) (a .m) (starts .starts-of .result) counts (starts .starts-of .ensures) in
+    (counts, (record { begin = begin; columns-are = sizes .before .columns-of .ensures }, sizes .sizes-of .ensures))
 
 returns-2 : tie.Need-returns-2
-returns-2 c =
-    let a = c .before .before .args in
-    entry-after plan (a .n) (a .m) (a .at) (omega (arith, c .if1 .left, c .before .plan-length .ensures))
+returns-2 c = search needs
 
 pub order-at-spec : {M : Type 1} → statement M
 order-at-spec =
     tie.close
     (tie.spec
-    plan-length-requires
+    judge-counts-requires
+    is-accepted-requires
+    returns
     starts-of-requires
     columns-of-requires
+    sizes-of-requires
     order-in-requires
-    returns
     returns-2)

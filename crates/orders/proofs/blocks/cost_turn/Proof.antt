@@ -9,7 +9,7 @@ use Rattle.plan.specs.Running.{lowered}
 use Rattle.plan.specs.Blocks.{costTurn}
 use Rattle.orders.specs.Walk.{nameOf, at-place, named-next}
 use borrow.Author.Needs.{needs}
-use Rattle.layout.specs.Lengths.{subsets-within}
+use Rattle.layout.specs.Sets.{subsets-within}
 use Rattle.orders.proofs.blocks.cost_turn.Statement.{statement}
 use Rattle.orders.proofs.blocks.cost_turn.Tie as tie
 

@@ -1,6 +1,6 @@
 -- `cell_of` meets its contract: the cell is the name's, and lies on the sheet.
 use native.Mathlib.Omega.{arith}
-use Rattle.orders.specs.Walk.{CellBy, cell-by}
+use Rattle.orders.specs.Cells.{CellBy, cell-by}
 use borrow.Author.Needs.{needs}
 use Rattle.orders.proofs.cells.cell_of.Statement.{statement}
 use Rattle.orders.proofs.cells.cell_of.Tie as tie
@@ -18,7 +18,7 @@ element-copy-out-result-2 : tie.Need-element-copy-out-result-2
 element-copy-out-result-2 c = search needs
 
 cell : (c : tie.After-result2) → let a = c .before .before .args in CellBy (a .n) (a .m) (a .c .0) (a .c .1) (a .c .2) (a .starts .now) (a .columns .now)
-cell c = let p = c .before .before .pre in cell-by _ _ _ _ _ _ _ (p .0) (p .1 .0) (p .1 .1 .0) (p .1 .1 .1)
+cell c = let p = c .before .before .pre in cell-by _ _ _ _ _ _ _ (p .0) (p .1)
 
 mul-result-3 : tie.Need-mul-result-3
 mul-result-3 c = omega (arith, cell c .on-sheet)

@@ -1,6 +1,7 @@
 -- `numbered_order` meets its contract: the cells are those of the names, and the kind chooses the order.
 use native.Mathlib.Omega.{arith}
-use Rattle.orders.specs.Walk.{constant-cells, operate-cells, constant-numbered, operate-numbered, kind-sum, kind-at, kind-equal}
+use Rattle.orders.specs.Walk.{constant-numbered, operate-numbered, kind-sum, kind-at, kind-equal}
+use Rattle.orders.specs.Cells.{constant-cells, operate-cells}
 use borrow.Author.Needs.{needs}
 use Rattle.orders.proofs.cells.numbered_order.Statement.{statement}
 use Rattle.orders.proofs.cells.numbered_order.Tie as tie
@@ -9,19 +10,19 @@ enum-known-o : tie.Need-enum-known-o
 enum-known-o c = search needs
 
 cell-of-requires : tie.Need-cell-of-requires
-cell-of-requires c κs = (omega arith, (omega arith, (c .before .before .before .pre .1 .1 .0, constant-cells (c .before .before .before .args .n) (c .before .before .before .args .m) _ _ _ (c .before .before .before .pre .1 .1 .1) (c .before .o .given .1))))
+cell-of-requires c κs = (c .before .before .before .pre .0, constant-cells (c .before .before .before .args .n) (c .before .before .before .args .m) _ _ _ (c .before .before .before .pre .1) (c .before .o .given .1))
 
 enum-known-o-2 : tie.Need-enum-known-o-2
 enum-known-o-2 c = search needs
 
 cell-of-requires-2 : tie.Need-cell-of-requires-2
-cell-of-requires-2 c κs = (omega arith, (omega arith, (c .before .before .before .pre .1 .1 .0, operate-cells (c .before .before .before .args .n) (c .before .before .before .args .m) _ _ _ _ _ (c .before .before .before .pre .1 .1 .1) (c .before .o2 .given .1) .0)))
+cell-of-requires-2 c κs = (c .before .before .before .pre .0, operate-cells (c .before .before .before .args .n) (c .before .before .before .args .m) _ _ _ _ _ (c .before .before .before .pre .1) (c .before .o2 .given .1) .0)
 
 cell-of-requires-3 : tie.Need-cell-of-requires-3
-cell-of-requires-3 c κs = (omega arith, (omega arith, (c .before .before .before .before .pre .1 .1 .0, operate-cells (c .before .before .before .before .args .n) (c .before .before .before .before .args .m) _ _ _ _ _ (c .before .before .before .before .pre .1 .1 .1) (c .before .before .o2 .given .1) .1)))
+cell-of-requires-3 c κs = (c .before .before .before .before .pre .0, operate-cells (c .before .before .before .before .args .n) (c .before .before .before .before .args .m) _ _ _ _ _ (c .before .before .before .before .pre .1) (c .before .before .o2 .given .1) .1)
 
 cell-of-requires-4 : tie.Need-cell-of-requires-4
-cell-of-requires-4 c κs = (omega arith, (omega arith, (c .before .before .before .before .before .pre .1 .1 .0, operate-cells (c .before .before .before .before .before .args .n) (c .before .before .before .before .before .args .m) _ _ _ _ _ (c .before .before .before .before .before .pre .1 .1 .1) (c .before .before .before .o2 .given .1) .2)))
+cell-of-requires-4 c κs = (c .before .before .before .before .before .pre .0, operate-cells (c .before .before .before .before .before .args .n) (c .before .before .before .before .before .args .m) _ _ _ _ _ (c .before .before .before .before .before .pre .1) (c .before .before .before .o2 .given .1) .2)
 
 returns : tie.Need-returns
 returns c = operate-numbered (c .before .before .before .before .before .before .before .args .n) (c .before .before .before .before .before .before .before .args .m) _ _ _ _ _ _ _ _ (c .before .before .before .before .before .o2 .given .1) (c .before .before .before .cell-of2 .ensures) (c .before .before .cell-of3 .ensures) (c .before .cell-of4 .ensures) _ (kind-sum _ _ _ _ (c .if1 .taken))

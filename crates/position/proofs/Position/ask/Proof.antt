@@ -9,8 +9,8 @@ use Rattle.definitions.specs.declared.Order.the-variants.{Constant}
 use Rattle.definitions.specs.Plan.{order, refused, total}
 use Rattle.laws.specs.Search.{turned-away, let-through}
 use Rattle.plan.specs.Plan.{plan}
+use Rattle.plan.specs.List.{total-limit}
 use Rattle.orders.specs.Entry.{order-there, nothing-there}
-use Rattle.layout.specs.Lengths.{total-small}
 use Rattle.position.proofs.Answers.{asked-before-total, asked-refused, asked-from-total}
 use Rattle.position.proofs.Position.ask.Statement.{statement}
 use Rattle.position.proofs.Position.ask.Tie as tie
@@ -30,7 +30,7 @@ there c =
 add-t9 : tie.Need-add-t9
 add-t9 c =
     let p = c .before .before .before .before .args .self in
-    omega (arith, there (c .before) .0, total-small (p .n) (p .m))
+    omega (arith, there (c .before) .0, total-limit (p .n) (p .m))
 
 enum-told : tie.Need-enum-told
 enum-told c = search needs
