@@ -19,6 +19,7 @@ use Rattle.laws.specs.Sizes.{accepted-sizes}
 use Rattle.laws.specs.AcceptedBook.{Sound, accepted-sound}
 use Rattle.plan.specs.Plan.{plan}
 use Rattle.clearing.specs.PlanClears.{plan-outcome}
+use Rattle.orders.specs.Runs.{steppedPlan, plan-run}
 use Rattle.clearing.specs.Amounts.{AmountsWithin}
 use Rattle.clearing.specs.SealedSheet.{sealed-is-sheet}
 
@@ -84,9 +85,9 @@ module _ (B : Book) (lent : List ℕ) where
         }
 
     -- the sheet that sealing left, and what the plan's run made of it
-    pub sealed-left : (s : List ℕ) → s ≡ sealSheet B lent → IsSheet s
+    sealed-left : (s : List ℕ) → s ≡ sealSheet B lent → IsSheet s
     sealed-left s e = subst IsSheet (sym (e ∙ sheet-sealed)) (sealed-is-sheet B (accepted-sound B book-accepted))
 
-    pub run-left : (s t : List ℕ) → s ≡ sealSheet B lent → t ≡ runOf (plan (B .n) (B .m)) s → t ≡ planRun plan B
+    pub run-left : (s t : List ℕ) → s ≡ sealSheet B lent → t ≡ steppedPlan plan (B .n) (B .m) s → t ≡ planRun plan B
     unfolding planRun
-    run-left s t e q = q ∙ ap (runOf (plan (B .n) (B .m))) (e ∙ sheet-sealed)
+    run-left s t e q = q ∙ plan-run (B .n) (B .m) s counts-pass (sealed-left s e) ∙ ap (runOf (plan (B .n) (B .m))) (e ∙ sheet-sealed)

@@ -3,12 +3,12 @@ ghost use mathlib.Core.Path.{_≡_};
 ghost use mathlib.Core.List.{List};
 ghost use lib.ListN.{length};
 ghost use lib.IntN.{ℤ};
-ghost use Rattle.definitions.specs.Answers.{refusalOf, none};
+ghost use Rattle.definitions.specs.Answers.{refusalOf};
 ghost use Rattle.definitions.specs.Book.{book};
 ghost use Rattle.definitions.specs.Sheet.{amountCell};
 ghost use Rattle.definitions.specs.Clearing as clearing;
-ghost use Rattle.definitions.specs.Machine.{cell, IsSheet, runOf};
-ghost use Rattle.definitions.specs.Calls.{countsRefusal, sealRefusal};
+ghost use Rattle.definitions.specs.Machine.{cell};
+ghost use Rattle.definitions.specs.Calls.{sealRefusal};
 ghost use Rattle.definitions.specs.Outcome.{clearSheet, clearCount, clearWelfare};
 ghost use Rattle.plan.specs.Plan.{plan};
 ghost use Rattle.clearing.specs.Amounts.{AmountsWithin};
@@ -16,9 +16,7 @@ use crate::welfare::welfare;
 use definitions::Limits;
 use definitions::Verdict;
 use definitions::is_accepted;
-use machine::step;
-use position::Asked;
-use position::Position;
+use orders::run_plan;
 use sealing::seal;
 
 mod welfare;
@@ -28,23 +26,6 @@ pub struct Cleared {
     pub verdict: Verdict,
     pub orders: usize,
     pub welfare: i64,
-}
-
-// Asks the plan from its first position to its end and runs each order; how many they are is the last position.
-fn run_plan(n: usize, m: usize, sheet: &mut [u32]) -> usize
-    requires { ⌜ countsRefusal n m ≡ none ⌝ }
-    requires { ⌜ IsSheet (now sheet) ⌝ }
-    ensures count { λ r. ⌜ r ≡ length (plan n m) ⌝ }
-    ensures cells { λ _. ⌜ now (sheet .exit) ≡ runOf (plan n m) (now (sheet .entry)) ⌝ }
-{
-    let mut position = Position::first(n, m);
-    loop {
-        let Asked::Order(order, later) = position.ask() else {
-            return position.at;
-        };
-        step(sheet, order);
-        position = later;
-    }
 }
 
 // The welfare of the accepted amounts that a sheet holds.

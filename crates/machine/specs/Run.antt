@@ -1,13 +1,13 @@
 -- An order of the machine runs on every sheet (`stepped-is`), and the sheet stays a sheet under an order and under a list of orders.
 use Prim.Native.Nat.{ℕ, zero, suc, _<_}
-use mathlib.Core.Path.{_≡_, sym, subst, _∙_}
+use mathlib.Core.Path.{_≡_, refl, sym, ap, subst, _∙_}
 use mathlib.Core.Bool.{Bool, true, false, cond}
 use mathlib.Core.List.{List, [], _∷_}
 use native.Mathlib.Omega.{arith}
 use native.Mathlib.Decide.{ℕ-discrete}
 use native.Mathlib.Nat.{mod-lt}
 use lib.Dec.{eqb}
-use lib.ListN.{set, length-set}
+use lib.ListN.{length, set, length-set}
 use lib.Seq.{getD-set-same, getD-set-other}
 use lib.Signed.{ltZ}
 use Rattle.definitions.specs.Limits.{cellCount, modulus}
@@ -16,14 +16,23 @@ use Rattle.definitions.specs.declared.Order.{Order}
 use Rattle.definitions.specs.declared.Order.the-variants.{Constant, Sum, Difference, Product, Less, Equal}
 use Rattle.definitions.specs.Machine.{cell, IsSheet, WellFormed, AllWellFormed, stepOf, runOf}
 use Rattle.definitions.specs.declared.Parts.{Parts}
-use Rattle.machine.specs.Step.{stepped, stepped-run, sheet-runs}
 use Rattle.definitions.specs.Answers.{partsOf}
+use Rattle.machine.specs.Step.{runnable, stepped, stepped-run, steppedAll, sheet-runs}
 use Rattle.machine.specs.Parts.{kindResult, one-store}
 
 -- ---- One order
 
 pub stepped-is : (s : List ℕ) (o : Order) → IsSheet s → WellFormed o → stepped s o ≡ stepOf s o
 stepped-is s o h w = stepped-run s o (sheet-runs s o h w)
+
+-- a step keeps the slice's length
+pub stepped-length : (s : List ℕ) (o : Order) → length (stepped s o) ≡ length s
+unfolding stepped
+stepped-length s o = go (runnable s o)
+  where
+    go : (t : Bool) → length (cond t (stepOf s o) s) ≡ length s
+    go true = ap length (one-store s o) ∙ length-set s (partsOf o .d) _
+    go false = refl
 
 -- the numbers of a well-formed order: cells of the sheet, and a constant below p
 pub record PartsWithin (q : Parts) : Type 0 where
@@ -74,3 +83,15 @@ pub run-sheet : (os : List Order) (s : List ℕ) → IsSheet s → AllWellFormed
 unfolding runOf
 run-sheet [] s h w = h
 run-sheet (o ∷ os) s h w = run-sheet os (stepOf s o) (step-sheet s o h (w .0)) (w .1)
+
+-- on a sheet the machine's orders, each stepped in turn, are document 01's run
+pub stepped-all-is : (os : List Order) (s : List ℕ) → IsSheet s → AllWellFormed os → steppedAll os s ≡ runOf os s
+unfolding steppedAll runOf
+stepped-all-is [] s h w = refl
+stepped-all-is (o ∷ os) s h w = ap (steppedAll os) (stepped-is s o h (w .0)) ∙ stepped-all-is os (stepOf s o) (step-sheet s o h (w .0)) (w .1)
+
+-- and they keep the length of any slice
+pub stepped-all-length : (os : List Order) (s : List ℕ) → length (steppedAll os s) ≡ length s
+unfolding steppedAll
+stepped-all-length [] s = refl
+stepped-all-length (o ∷ os) s = stepped-all-length os (stepped s o) ∙ stepped-length s o

@@ -1,8 +1,9 @@
--- What `step` leaves on any slice for any order. On a sheet an order of the machine does what document 01 says (`stepped-is` in Run).
+-- What `step` leaves on any slice for any order, and what a list of orders leaves. On a sheet the machine's orders do what document 01 says
+-- (`stepped-is`, `stepped-all-is` in Run).
 use Prim.Native.Nat.{ℕ, _<_}
 use mathlib.Core.Path.{_≡_, refl}
 use mathlib.Core.Bool.{Bool, true, false, cond, _&&_}
-use mathlib.Core.List.{List}
+use mathlib.Core.List.{List, [], _∷_, _++_}
 use lib.Dec.{eqb, ltb}
 use lib.ListN.{length}
 use borrow.Author.Tests.{ltb-true, eq-eqb, lt-ltb}
@@ -48,6 +49,16 @@ stepped-run s o e = rw e refl
 pub stepped-left : (s : List ℕ) (o : Order) → runnable s o ≡ false → stepped s o ≡ s
 unfolding stepped
 stepped-left s o e = rw e refl
+
+-- the slice after some orders, each in turn
+unfoldable pub steppedAll : List Order → List ℕ → List ℕ
+steppedAll [] s = s
+steppedAll (o ∷ os) s = steppedAll os (stepped s o)
+
+pub stepped-append : (x y : List Order) (s : List ℕ) → steppedAll (x ++ y) s ≡ steppedAll y (steppedAll x s)
+unfolding steppedAll
+stepped-append [] y s = refl
+stepped-append (o ∷ x) y s = stepped-append x y (stepped s o)
 
 -- ---- what the tests say
 

@@ -1,7 +1,8 @@
--- What the code of the orders cites: digits of sets, orders over names, the shape of a phase, the walk through the table, cells, and what is answered at a position.
+-- What the code of the orders cites: digits of sets, orders over names, the shape of a phase, the walk through the table, cells, what is answered at a position, and the plan's run.
 pub mod Digits
 pub mod Walk
 pub mod Shaped
 pub mod Steps
 pub mod Cells
 pub mod Entry
+pub mod Runs

@@ -1,9 +1,11 @@
-// The plan as a table of phases: how many orders it has, and its order at a position.
+// The plan as a table of phases: how many orders it has, its order at a position, and its run on a sheet.
 // An order is made over the names of cells first; one function then gives each name its cell.
 ghost use mathlib.Core.Path.{_≡_};
 ghost use Rattle.definitions.specs.Plan.{total};
 ghost use Rattle.plan.specs.Plan.{plan};
 ghost use Rattle.orders.specs.Entry.{planEntry};
+ghost use Rattle.orders.specs.Runs.{steppedPlan};
+use crate::run::run_phases;
 use crate::walk::length_of;
 use crate::walk::order_in;
 use crate::walk::sizes_of;
@@ -16,6 +18,7 @@ use layout::starts_of;
 mod blocks;
 mod cells;
 mod names;
+mod run;
 mod sets;
 mod table;
 mod walk;
@@ -47,4 +50,18 @@ pub fn order_at(n: usize, m: usize, at: usize) -> Entry
     let columns = columns_of(m);
     let sizes = sizes_of(n, m);
     order_in(n, m, &starts, &columns, &sizes, at)
+}
+
+// Runs the plan on a sheet, and gives how many orders it has; refused counts leave the sheet as it was, and give 0.
+pub fn run_plan(n: usize, m: usize, sheet: &mut [u32]) -> usize
+    ensures count { λ r. ⌜ r ≡ total plan n m ⌝ }
+    ensures cells { λ _. ⌜ now (sheet .exit) ≡ steppedPlan plan n m (now (sheet .entry)) ⌝ }
+{
+    if !is_accepted(judge_counts(n, m)) {
+        return 0;
+    }
+    let starts = starts_of(n, m);
+    let columns = columns_of(m);
+    run_phases(n, m, &starts, &columns, sheet);
+    length_of(n, m)
 }

@@ -15,8 +15,9 @@ use Rattle.definitions.specs.Outcome.{planRun}
 use Rattle.laws.specs.SignedTests.{back}
 use Rattle.laws.specs.Search.{turned-away, let-through}
 use Rattle.plan.specs.Plan.{plan}
+use Rattle.plan.specs.Asking.{total-accepted}
 use Rattle.clearing.specs.Amounts.{AmountsWithin}
-use Rattle.clearing.proofs.Sealing.{refused-count, refused-welfare, refused-sheet, counts-pass, count-given, welfare-given, sheet-given, amounts-within, sealed-left, run-left}
+use Rattle.clearing.proofs.Sealing.{refused-count, refused-welfare, refused-sheet, counts-pass, count-given, welfare-given, sheet-given, amounts-within, run-left}
 use Rattle.clearing.proofs.clear.Statement.{statement}
 use Rattle.clearing.proofs.clear.Tie as tie
 
@@ -55,10 +56,7 @@ unfolding bookAt lentAt
 accepted c = let-through (c .before .before .before .before .seal .ensures .0) (c .before .is-accepted .ensures) (c .if1 .left)
 
 run-plan-requires : tie.Need-run-plan-requires
-unfolding bookAt lentAt
-run-plan-requires c κs =
-    let start = c .before .before .before .before .before .before .before .before in
-    (counts-pass (bookAt start) (lentAt start) (accepted (c .before)), sealed-left (bookAt start) (lentAt start) (accepted (c .before)) _ (c .before .before .before .before .before .seal .ensures .1))
+run-plan-requires c κs = search needs
 
 -- the sheet after the plan
 ran : (c : tie.After-run-plan) → let start = c .before .before .before .before .before .before .before .before .before in c .run-plan .last .1 .1 .0 ≡ planRun plan (bookAt start)
@@ -86,7 +84,9 @@ returns-2 c =
     let yes = accepted (c .before .before .before .before .before .before) in (
       sealed .ensures .0,
       (
-        plan-run .run-plan .ensures .0 ∙ count-given (bookAt start) (lentAt start) yes,
+        plan-run .run-plan .ensures .0
+            ∙ total-accepted plan (start .args .n) (start .args .m) (counts-pass (bookAt start) (lentAt start) yes)
+            ∙ count-given (bookAt start) (lentAt start) yes,
         (
           back w64 _ (c .welfare-of .ok)
               ∙ c .welfare-of .ensures (start .args .capacities .now)

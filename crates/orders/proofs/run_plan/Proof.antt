@@ -1,0 +1,77 @@
+-- `run_plan` meets its contract: the counts are judged first; if they pass, the tables are those of the plan, and all phases are run.
+use mathlib.Core.Path.{_≡_, sym, _∙_}
+use borrow.Author.Needs.{needs}
+use Rattle.definitions.specs.Answers.{none}
+use Rattle.definitions.specs.Calls.{countsRefusal}
+use Rattle.laws.specs.Sizes.{counted}
+use Rattle.laws.specs.Search.{turned-away, let-through}
+use Rattle.plan.specs.Plan.{plan}
+use Rattle.plan.specs.Asking.{total-accepted, total-refused}
+use Rattle.layout.specs.Tables.{starts-accepted}
+use Rattle.orders.specs.Runs.{plan-stepped, plan-not-stepped}
+use Rattle.orders.proofs.run_plan.Statement.{statement}
+use Rattle.orders.proofs.run_plan.Tie as tie
+
+judge-counts-requires : tie.Need-judge-counts-requires
+judge-counts-requires c κs = search needs
+
+is-accepted-requires : tie.Need-is-accepted-requires
+is-accepted-requires c κs = search needs
+
+returns : tie.Need-returns
+returns c =
+    let a = c .before .before .before .before .args in
+    let refused = turned-away (c .before .before .judge-counts .ensures) (c .before .is-accepted .ensures) (c .if1 .taken) in
+    (sym (total-refused plan (a .n) (a .m) refused), sym (plan-not-stepped plan (a .n) (a .m) (a .sheet .now) refused))
+
+passed : (c : tie.Else1) → let a = c .before .before .before .before .args in countsRefusal (a .n) (a .m) ≡ none
+passed c = let-through (c .before .before .judge-counts .ensures) (c .before .is-accepted .ensures) (c .if1 .left)
+
+starts-of-requires : tie.Need-starts-of-requires
+starts-of-requires c κs = search needs
+
+columns-of-requires : tie.Need-columns-of-requires
+columns-of-requires c κs = search needs
+
+run-phases-requires : tie.Need-run-phases-requires
+run-phases-requires c κs =
+    let columns = c .before .before .before in
+    let starts = columns .before in
+    let a = starts .before .before .before .before .before .args in
+    let counts = passed (starts .before) in
+    let limits = counted (a .n) (a .m) counts in
+    let begin = starts-accepted (a .n) (a .m) (starts .starts-of .result) counts (starts .starts-of .ensures) in
+    (limits .bids, (limits .pools .most, record { begin = begin; columns-are = columns .columns-of .ensures }))
+
+length-of-requires : tie.Need-length-of-requires
+length-of-requires c κs =
+    let run = c .before .before .before .before .before .before .before .before in
+    let a = run .before .before .before .before .args in
+    let limits = counted (a .n) (a .m) (passed run) in
+    (limits .bids, limits .pools .most)
+
+same-length : tie.Need-same-length
+same-length c = search needs
+
+returns-2 : tie.Need-returns-2
+returns-2 c =
+    let phases = c .before .before .before in
+    let run = phases .before .before .before .before .before .before in
+    let a = run .before .before .before .before .args in (
+      c .length-of .ensures ∙ sym (total-accepted plan (a .n) (a .m) (passed run)),
+      phases .run-phases .ensures ∙ sym (plan-stepped plan (a .n) (a .m) (a .sheet .now) (passed run)),
+    )
+
+pub run-plan-spec : {M : Type 1} → statement M
+run-plan-spec =
+    tie.close
+    (tie.spec
+    judge-counts-requires
+    is-accepted-requires
+    returns
+    starts-of-requires
+    columns-of-requires
+    run-phases-requires
+    length-of-requires
+    same-length
+    returns-2)
