@@ -5,3 +5,4 @@ pub mod Groups
 pub mod OrderBytes
 pub mod PlanBytes
 pub mod Writes
+pub mod Fitting

@@ -13,7 +13,7 @@ use Rattle.definitions.specs.Calls.{countsRefusal}
 use Rattle.definitions.specs.Plan.{Plan, total}
 use Rattle.laws.specs.Tests.{Lt?, less, more, lt?}
 use Rattle.plan.specs.Asking.{total-accepted}
-use Rattle.plan.specs.Phased.{flat, flat-length, Has}
+use Rattle.plan.specs.Phased.{flat, flat-length, Has, has-here}
 use Rattle.plan.specs.Table.{table}
 use Rattle.plan.specs.Plan.{plan, plan-length, plan-has}
 use Rattle.orders.specs.declared.names.NamedOrder.{NamedOrder}
@@ -76,3 +76,12 @@ module _ (n m at : ℕ) (counts : countsRefusal n m ≡ none) where
 
   pub entry-none : length (flat (table n m)) ≤ at → case.Nothing ≡ planEntry plan n m at
   entry-none h = entry-after plan n m at (omega (arith, total-accepted plan n m counts, plan-length n m, flat-length (table n m)))
+
+  -- what the code was answered: an order, or nothing
+  pub order-has : (o : Order) → case.Order o ≡ planEntry plan n m at → Has (plan n m) at o
+  order-has o e =
+      let there = order-there plan n m at o e in
+      rw (there .1) (has-here (plan n m) at (Constant 0 0) (omega (arith, there .0, total-accepted plan n m counts)))
+
+  pub nothing-left : case.Nothing ≡ planEntry plan n m at → length (plan n m) ≤ at
+  nothing-left e = omega (arith, nothing-there plan n m at e, total-accepted plan n m counts)

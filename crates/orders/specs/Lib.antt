@@ -1,4 +1,4 @@
--- What the code of the orders cites: digits of sets, orders over names, the shape of a phase, the walk through the table, cells, what is answered at a position, and the plan's run.
+-- What the code of the orders cites: digits of sets, orders over names, the shape of a phase, the walk through the table, cells, what is answered at a position, the plan's run, and its bytes.
 pub mod Digits
 pub mod Walk
 pub mod Shaped
@@ -6,3 +6,4 @@ pub mod Steps
 pub mod Cells
 pub mod Entry
 pub mod Runs
+pub mod Writes

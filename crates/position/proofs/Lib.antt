@@ -1,3 +1,2 @@
--- What the proof of asking at a position cites, and what an answer without an order says.
+-- What the proof of asking at a position cites.
 pub mod Answers
-pub mod Ends

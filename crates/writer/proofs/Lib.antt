@@ -1,3 +1,2 @@
 -- What the writer's loop keeps, and a host's walk by computation.
-pub mod Filling
 pub mod WalkFacts

@@ -1,16 +1,13 @@
 // The plan writer: a plan's orders from a position on, as bytes in a lent slice.
 ghost use mathlib.Core.Path.{_≡_};
-ghost use Prim.Native.Nat.{_≤_};
 ghost use lib.ListN.{length};
-ghost use Rattle.definitions.specs.Answers.{none, refusalOf};
-ghost use Rattle.definitions.specs.Calls.{countsRefusal};
-ghost use Rattle.definitions.specs.Plan.{writeRefusal, bytesWritten, writtenCounts, writeCounts, writeSlice, over};
+ghost use Rattle.definitions.specs.Answers.{refusalOf};
+ghost use Rattle.definitions.specs.Plan.{writeRefusal, writeCounts, writeSlice};
 ghost use Rattle.plan.specs.Plan.{plan};
 ghost use Rattle.writer.specs.Counts.{countsOf};
-use codec::write_order;
 use definitions::Verdict;
 use definitions::is_accepted;
-use position::Asked;
+use orders::write_orders;
 use position::Position;
 
 // The longest order, in bytes.
@@ -38,41 +35,6 @@ pub fn judge_writing(n: usize, m: usize, at: usize, room: usize) -> Verdict
     Verdict::Accepted
 }
 
-// As many whole orders as fit.
-fn write_orders(from: Position, out: &mut [u8]) -> Written
-    requires { ⌜ countsRefusal (from .n) (from .m) ≡ none ⌝ }
-    requires { ⌜ from .at ≤ length (plan (from .n) (from .m)) ⌝ }
-    ensures verdict { λ r. ⌜ refusalOf (r .verdict) ≡ none ⌝ }
-    ensures counts { λ r. ⌜ countsOf r ≡ writtenCounts plan (from .n) (from .m) (from .at) (length (now (out .entry))) ⌝ }
-    ensures slice { λ _. ⌜ now (out .exit) ≡ over (bytesWritten plan (from .n) (from .m) (from .at) (length (now (out .entry)))) (now (out .entry)) ⌝ }
-{
-    let mut position = from;
-    let mut bytes = 0;
-    let mut orders = 0;
-    loop {
-        let Asked::Order(order, later) = position.ask() else {
-            return Written {
-                verdict: Verdict::Accepted,
-                bytes,
-                orders,
-                next: position.at,
-            };
-        };
-        let size = write_order(out, bytes, order);
-        if size == 0 {
-            return Written {
-                verdict: Verdict::Accepted,
-                bytes,
-                orders,
-                next: position.at,
-            };
-        }
-        bytes += size;
-        orders += 1;
-        position = later;
-    }
-}
-
 // From a position, fills the slice with as many whole orders as fit and keeps the bytes after them.
 pub fn write_plan(n: usize, m: usize, at: usize, out: &mut [u8]) -> Written
     ensures verdict { λ r. ⌜ refusalOf (r .verdict) ≡ writeRefusal plan n m at (length (now (out .entry))) ⌝ }
@@ -88,5 +50,11 @@ pub fn write_plan(n: usize, m: usize, at: usize, out: &mut [u8]) -> Written
             next: 0,
         };
     }
-    write_orders(Position { n, m, at }, out)
+    let written = write_orders(n, m, at, out);
+    Written {
+        verdict,
+        bytes: written.bytes,
+        orders: written.orders,
+        next: written.next,
+    }
 }

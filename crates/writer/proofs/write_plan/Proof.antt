@@ -6,6 +6,7 @@ use Rattle.definitions.specs.Answers.{none}
 use Rattle.definitions.specs.Plan.{writeRefusal}
 use Rattle.laws.specs.Search.{turned-away, let-through}
 use Rattle.plan.specs.Plan.{plan}
+use Rattle.orders.specs.Writes.{counts-filled, slice-filled}
 use Rattle.writer.specs.Calls.{write-within, counts-accepted, slice-accepted, counts-refused, slice-refused}
 use Rattle.writer.proofs.write_plan.Statement.{statement}
 use Rattle.writer.proofs.write_plan.Tie as tie
@@ -27,22 +28,24 @@ passed : (c : tie.Else1) → let a = c .before .before .before .before .args in 
 passed c = let-through (c .before .before .judge-writing .ensures) (c .before .is-accepted .ensures) (c .if1 .left)
 
 write-orders-requires : tie.Need-write-orders-requires
-write-orders-requires c κs =
-    let within = write-within plan _ _ _ _ (passed (c .before)) in
-    (within .counts, within .position)
+write-orders-requires c κs = search needs
 
 same-length : tie.Need-same-length
 same-length c = search needs
 
 returns-2 : tie.Need-returns-2
 returns-2 c =
-    let a = c .before .before .before .before .before .before .before .before .args in
-    let accepted = passed (c .before .before .before .before) in
+    let judged = c .before .before .before .before in
+    let a = judged .before .before .before .before .args in
+    let accepted = passed judged in
+    let counts = write-within plan _ _ _ _ accepted .counts in
     let written = c .before .before .write-orders .ensures in (
-      written .0 ∙ sym accepted,
+      judged .before .before .judge-writing .ensures,
       (
-        written .1 .0 ∙ sym (counts-accepted plan (a .n) (a .m) (a .at) (length (a .out .now)) accepted),
-        written .1 .1 ∙ sym (slice-accepted plan (a .n) (a .m) (a .at) (a .out .now) accepted),
+        written .0
+            ∙ counts-filled plan (a .n) (a .m) (a .at) (length (a .out .now)) counts
+            ∙ sym (counts-accepted plan (a .n) (a .m) (a .at) (length (a .out .now)) accepted),
+        written .1 ∙ slice-filled plan (a .n) (a .m) (a .at) (a .out .now) counts ∙ sym (slice-accepted plan (a .n) (a .m) (a .at) (a .out .now) accepted),
       ),
     )
 

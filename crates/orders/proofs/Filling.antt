@@ -17,12 +17,8 @@ use Rattle.laws.specs.Tests.{Lt?, less, more, lt?}
 use Rattle.codec.specs.Written.{writtenSize}
 use Rattle.codec.specs.Writes.{size-without-room}
 use Rattle.codec.specs.OrderBytes.{at-least-three}
-use Rattle.position.specs.declared.Position.{Position}
-use Rattle.plan.specs.Asking.{Handed}
-use Rattle.writer.specs.Fitting.{bytes-of-none, bytes-of-more, fits-none, fits-one, fits-no-more}
-
-position-is : (p : Position) (n m at : ℕ) → p .n ≡ n → p .m ≡ m → p .at ≡ at → p ≡ record { n = n; m = m; at = at }
-position-is p n m at a b c = rw (sym a, sym b, sym c) refl
+use Rattle.plan.specs.Phased.{Has}
+use Rattle.codec.specs.Fitting.{bytes-of-none, bytes-of-more, fits-none, fits-one, fits-no-more}
 
 -- bytes were written, so there was room
 pub had-room : (out : List ℕ) (at size : ℕ) (o : Order) → size ≡ writtenSize out at o → (size ≡ 0 → ⊥) → at + length (orderBytes o) ≤ length out
@@ -32,55 +28,52 @@ had-room out at size o e some = go (lt? (length out) (at + length (orderBytes o)
     go (less h) = absurd (some (e ∙ size-without-room out at o h))
     go (more h) = h
 
-module _ (P : Plan) (from : Position) where
-  -- the plan's orders, and those from the position on
+module _ (P : Plan) (n m from : ℕ) where
+  -- the plan's orders, and those from a position on
   abbrev whole : List Order
-  whole = P (from .n) (from .m)
+  whole = P n m
 
   abbrev rest : List Order
-  rest = drop (from .at) whole
+  rest = drop from whole
 
   -- after some orders, whose bytes are written
-  pub record Filled (before out : List ℕ) (position : Position) (bytes orders : ℕ) : Type 0 where
+  pub record Filled (before out : List ℕ) (next bytes orders : ℕ) : Type 0 where
     pub long : length out ≡ length before
     pub room : bytes ≤ length before
-    pub within : from .at + orders ≤ length whole
     pub few : orders ≤ bytes
-    pub stands : position ≡ record { n = from .n; m = from .m; at = from .at + orders }
-    pub count : fitting rest (length before) ≡ orders + fitting (drop (from .at + orders) whole) (length before - bytes)
+    pub stands : next ≡ from + orders
+    pub count : fitting rest (length before) ≡ orders + fitting (drop (from + orders) whole) (length before - bytes)
     pub size : length (ordersBytes (take orders rest)) ≡ bytes
     pub slice : out ≡ ordersBytes (take orders rest) ++ drop bytes before
 
-  pub begins : (before : List ℕ) → from .at ≤ length whole → Filled before before from 0 0
-  begins before h =
+  pub begins : (before : List ℕ) → Filled before before from 0 0
+  begins before =
       record {
         long = refl;
         room = omega arith;
-        within = omega arith;
         few = omega arith;
-        stands = sym (ap (λ (k : ℕ). record { n = from .n; m = from .m; at = k }) (add-zero (from .at)));
+        stands = sym (add-zero from);
         count =
-            ap₂ fitting (ap (λ (k : ℕ). drop k whole) (sym (add-zero (from .at)))) (let e : length before ≡ length before - 0 = omega arith in e)
-            ∙ sym (zero-add (fitting (drop (from .at + 0) whole) (length before - 0)));
+            ap₂ fitting (ap (λ (k : ℕ). drop k whole) (sym (add-zero from))) (let e : length before ≡ length before - 0 = omega arith in e)
+            ∙ sym (zero-add (fitting (drop (from + 0) whole) (length before - 0)));
         size = ap length bytes-of-none;
         slice = sym (ap (λ (xs : List ℕ). xs ++ before) bytes-of-none);
       }
 
-  module _ (before out : List ℕ) (position : Position) (bytes orders : ℕ) (filled : Filled before out position bytes orders) where
+  module _ (before out : List ℕ) (next bytes orders : ℕ) (filled : Filled before out next bytes orders) where
     -- the order at the position, if its bytes have room
-    pub goes-on : (o : Order) (later : Position) (out′ : List ℕ) (bytes′ : ℕ) → Handed P (from .n) (from .m) (from .at + orders) o (later .at)
-        → later .n ≡ from .n → later .m ≡ from .m → bytes + length (orderBytes o) ≤ length before
-        → out′ ≡ written out bytes (orderBytes o) → bytes′ ≡ bytes + length (orderBytes o) → Filled before out′ later bytes′ (orders + 1)
-    goes-on o later out′ bytes′ handed same-n same-m h e q =
-        let at : ℕ = from .at + orders in
+    pub goes-on : (o : Order) (out′ : List ℕ) (bytes′ : ℕ) → Has whole (from + orders) o → bytes + length (orderBytes o) ≤ length before
+        → out′ ≡ written out bytes (orderBytes o) → bytes′ ≡ bytes + length (orderBytes o) → Filled before out′ (next + 1) bytes′ (orders + 1)
+    goes-on o out′ bytes′ there h e q =
+        let at : ℕ = from + orders in
         let d : Order = Constant 0 0 in
-        let l : length rest ≡ length whole - from .at = length-drop (from .at) whole in
-        let is-order : getD rest orders d ≡ o = getD-drop (from .at) whole orders d ∙ sym (handed .is-order) in
-        let next : drop at whole ≡ o ∷ drop (suc at) whole =
-        drop-cons whole at d (handed .before-end) ∙ ap (λ (x : Order). x ∷ drop (suc at) whole) (sym (handed .is-order)) in
+        let l : length rest ≡ length whole - from = length-drop from whole in
+        let is-order : getD rest orders d ≡ o = getD-drop from whole orders d ∙ there .is d in
+        let after : drop at whole ≡ o ∷ drop (suc at) whole =
+        drop-cons whole at d (there .inside) ∙ ap (λ (x : Order). x ∷ drop (suc at) whole) (there .is d) in
         let more : ordersBytes (take (orders + 1) rest) ≡ ordersBytes (take orders rest) ++ orderBytes o =
         ap (λ (k : ℕ). ordersBytes (take k rest)) (add-one orders)
-        ∙ bytes-of-more rest orders d (omega (arith, handed .before-end))
+        ∙ bytes-of-more rest orders d (omega (arith, there .inside))
         ∙ ap (λ (x : Order). ordersBytes (take orders rest) ++ orderBytes x) is-order in
         let size : length (ordersBytes (take (orders + 1) rest)) ≡ bytes′ =
         ap length more ∙ length-append (ordersBytes (take orders rest)) (orderBytes o) ∙ (let a : length (ordersBytes (take orders rest)) + length (orderBytes o) ≡ bytes′ = omega (arith, filled .size) in a) in
@@ -93,40 +86,39 @@ module _ (P : Plan) (from : Position) where
         ap length slice
         ∙ length-append (ordersBytes (take (orders + 1) rest)) (drop bytes′ before)
         ∙ (let a : length (ordersBytes (take (orders + 1) rest)) + length (drop bytes′ before) ≡ length before = omega (arith, length-drop bytes′ before) in a) in
-        let one-fits : fitting (drop at whole) (length before - bytes) ≡ suc (fitting (drop (from .at + (orders + 1)) whole) (length before - bytes′)) =
-        ap (λ (os : List Order). fitting os (length before - bytes)) next
+        let one-fits : fitting (drop at whole) (length before - bytes) ≡ suc (fitting (drop (from + (orders + 1)) whole) (length before - bytes′)) =
+        ap (λ (os : List Order). fitting os (length before - bytes)) after
         ∙ fits-one o (drop (suc at) whole) (length before - bytes) (omega arith)
         ∙ ap suc
         (ap₂ fitting
-        (ap (λ (k : ℕ). drop k whole) (let a : suc at ≡ from .at + (orders + 1) = omega arith in a))
+        (ap (λ (k : ℕ). drop k whole) (let a : suc at ≡ from + (orders + 1) = omega arith in a))
         (let a : length before - bytes - length (orderBytes o) ≡ length before - bytes′ = omega arith in a)) in
         record {
           long = long;
           room = omega arith;
-          within = omega (arith, handed .before-end);
           few = omega (arith, filled .few, at-least-three o);
-          stands = position-is later (from .n) (from .m) (from .at + (orders + 1)) same-n same-m (handed .moves-on ∙ (let a : at + 1 ≡ from .at + (orders + 1) = omega arith in a));
+          stands = omega (arith, filled .stands);
           count = omega (arith, filled .count, one-fits);
           size = size;
           slice = slice;
         }
 
     -- no order fits: the plan has ended, or there is no room for the next
-    pub at-end : from .at + orders ≡ length whole → fitting (drop (from .at + orders) whole) (length before - bytes) ≡ 0
-    at-end h = ap (λ (os : List Order). fitting os (length before - bytes)) (drop-of-length-le whole (let a : length whole ≤ from .at + orders = omega arith in a)) ∙ fits-none (length before - bytes)
+    pub at-end : length whole ≤ from + orders → fitting (drop (from + orders) whole) (length before - bytes) ≡ 0
+    at-end h = ap (λ (os : List Order). fitting os (length before - bytes)) (drop-of-length-le whole h) ∙ fits-none (length before - bytes)
 
-    pub no-room : (o : Order) (next : ℕ) → Handed P (from .n) (from .m) (from .at + orders) o next → length out < bytes + length (orderBytes o)
-        → fitting (drop (from .at + orders) whole) (length before - bytes) ≡ 0
-    no-room o next handed h =
-        let at : ℕ = from .at + orders in
+    pub no-room : (o : Order) → Has whole (from + orders) o → length out < bytes + length (orderBytes o)
+        → fitting (drop (from + orders) whole) (length before - bytes) ≡ 0
+    no-room o there h =
+        let at : ℕ = from + orders in
         ap (λ (os : List Order). fitting os (length before - bytes))
-        (drop-cons whole at (Constant 0 0) (handed .before-end) ∙ ap (λ (x : Order). x ∷ drop (suc at) whole) (sym (handed .is-order)))
+        (drop-cons whole at (Constant 0 0) (there .inside) ∙ ap (λ (x : Order). x ∷ drop (suc at) whole) (there .is (Constant 0 0)))
         ∙ fits-no-more o (drop (suc at) whole) (length before - bytes) (omega (arith, filled .long, filled .room))
 
     -- then the contract holds
-    pub ends : fitting (drop (from .at + orders) whole) (length before - bytes) ≡ 0
-        → (record { bytes = bytes; orders = orders; next = position .at } ≡ writtenCounts P (from .n) (from .m) (from .at) (length before))
-        × (out ≡ over (bytesWritten P (from .n) (from .m) (from .at) (length before)) before)
+    pub ends : fitting (drop (from + orders) whole) (length before - bytes) ≡ 0
+        → (record { bytes = bytes; orders = orders; next = next } ≡ writtenCounts P n m from (length before))
+        × (out ≡ over (bytesWritten P n m from (length before)) before)
     unfolding writtenCounts bytesWritten ordersWritten
     ends e =
         let all : fitting rest (length before) ≡ orders = omega (arith, filled .count) in
