@@ -19,7 +19,7 @@ use Rattle.laws.specs.Sizes.{accepted-sizes}
 use Rattle.laws.specs.AcceptedBook.{Sound, accepted-sound}
 use Rattle.plan.specs.Plan.{plan}
 use Rattle.clearing.specs.PlanClears.{plan-outcome}
-use Rattle.orders.specs.Runs.{steppedPlan, plan-run}
+use Rattle.orders.specs.Runs.{steppedPlan, stepped-plan-is}
 use Rattle.clearing.specs.Amounts.{AmountsWithin}
 use Rattle.clearing.specs.SealedSheet.{sealed-is-sheet}
 
@@ -90,4 +90,4 @@ module _ (B : Book) (lent : List ℕ) where
 
     pub run-left : (s t : List ℕ) → s ≡ sealSheet B lent → t ≡ steppedPlan plan (B .n) (B .m) s → t ≡ planRun plan B
     unfolding planRun
-    run-left s t e q = q ∙ plan-run (B .n) (B .m) s counts-pass (sealed-left s e) ∙ ap (runOf (plan (B .n) (B .m))) (e ∙ sheet-sealed)
+    run-left s t e q = q ∙ stepped-plan-is (B .n) (B .m) s counts-pass (sealed-left s e) ∙ ap (runOf (plan (B .n) (B .m))) (e ∙ sheet-sealed)

@@ -1,4 +1,5 @@
--- What the writer's loop keeps while it fills a slice, order by order: it holds at first (`begins`), after each order (`goes-on`), and at the end is the contract (`ends`).
+-- What the loop of `write_from` keeps while it fills a slice, order by order: it holds at first (`begins`), after each order (`goes-on`), and at the
+-- end is the contract (`ends`).
 use Prim.Native.Nat.{ℕ, suc, _+_, _-_, _≤_, _<_}
 use mathlib.Core.Path.{_≡_, refl, sym, ap, ap₂, _∙_}
 use mathlib.Core.Bool.{Bool}
@@ -29,10 +30,11 @@ had-room out at size o e some = go (lt? (length out) (at + length (orderBytes o)
     go (more h) = h
 
 module _ (P : Plan) (n m from : ℕ) where
-  -- the plan's orders, and those from a position on
+  -- the plan's orders
   abbrev whole : List Order
   whole = P n m
 
+  -- those from a position on
   abbrev rest : List Order
   rest = drop from whole
 
@@ -76,16 +78,19 @@ module _ (P : Plan) (n m from : ℕ) where
         ∙ bytes-of-more rest orders d (omega (arith, there .inside))
         ∙ ap (λ (x : Order). ordersBytes (take orders rest) ++ orderBytes x) is-order in
         let size : length (ordersBytes (take (orders + 1) rest)) ≡ bytes′ =
-        ap length more ∙ length-append (ordersBytes (take orders rest)) (orderBytes o) ∙ (let a : length (ordersBytes (take orders rest)) + length (orderBytes o) ≡ bytes′ = omega (arith, filled .size) in a) in
+        ap length more ∙ length-append (ordersBytes (take orders rest)) (orderBytes o)
+        ∙ (let a : length (ordersBytes (take orders rest)) + length (orderBytes o) ≡ bytes′ = omega (arith, filled .size) in a) in
         let slice : out′ ≡ ordersBytes (take (orders + 1) rest) ++ drop bytes′ before =
         e
         ∙ ap (λ (xs : List ℕ). written xs bytes (orderBytes o)) (filled .slice)
         ∙ behind (ordersBytes (take orders rest)) (drop bytes before) bytes (orderBytes o) (filled .size)
-        ∙ ap₂ (λ (xs : List ℕ) (ys : List ℕ). xs ++ ys) (sym more) (drop-drop (length (orderBytes o)) bytes before ∙ ap (λ (k : ℕ). drop k before) (sym q)) in
+        ∙ ap₂ (λ (xs : List ℕ) (ys : List ℕ). xs ++ ys) (sym more)
+        (drop-drop (length (orderBytes o)) bytes before ∙ ap (λ (k : ℕ). drop k before) (sym q)) in
         let long : length out′ ≡ length before =
         ap length slice
         ∙ length-append (ordersBytes (take (orders + 1) rest)) (drop bytes′ before)
-        ∙ (let a : length (ordersBytes (take (orders + 1) rest)) + length (drop bytes′ before) ≡ length before = omega (arith, length-drop bytes′ before) in a) in
+        ∙ (let a : length (ordersBytes (take (orders + 1) rest)) + length (drop bytes′ before) ≡ length before
+        = omega (arith, length-drop bytes′ before) in a) in
         let one-fits : fitting (drop at whole) (length before - bytes) ≡ suc (fitting (drop (from + (orders + 1)) whole) (length before - bytes′)) =
         ap (λ (os : List Order). fitting os (length before - bytes)) after
         ∙ fits-one o (drop (suc at) whole) (length before - bytes) (omega arith)
@@ -122,7 +127,8 @@ module _ (P : Plan) (n m from : ℕ) where
     unfolding writtenCounts bytesWritten ordersWritten
     ends e =
         let all : fitting rest (length before) ≡ orders = omega (arith, filled .count) in
-        let size : length (ordersBytes (take (fitting rest (length before)) rest)) ≡ bytes = ap (λ (k : ℕ). length (ordersBytes (take k rest))) all ∙ filled .size in (
+        let size : length (ordersBytes (take (fitting rest (length before)) rest)) ≡ bytes
+        = ap (λ (k : ℕ). length (ordersBytes (take k rest))) all ∙ filled .size in (
           rw (size, all, filled .stands) refl,
           filled .slice ∙ ap₂ (λ (xs : List ℕ) (k : ℕ). xs ++ drop k before) (ap (λ (k : ℕ). ordersBytes (take k rest)) (sym all)) (sym size),
         )

@@ -68,11 +68,13 @@ module _ (P : Plan) (n m at : ℕ) where
 -- ---- the plan's entry from that of its table
 
 module _ (n m at : ℕ) (counts : countsRefusal n m ≡ none) where
-  pub entry-found : (o : NamedOrder) (order : Order) → Has (flat (table n m)) at (namedOf o) → order ≡ numberedOf n m o → case.Order order ≡ planEntry plan n m at
+  pub entry-found : (o : NamedOrder) (order : Order) → Has (flat (table n m)) at (namedOf o) → order ≡ numberedOf n m o
+      → case.Order order ≡ planEntry plan n m at
   unfolding numberedOf
   entry-found o order h e =
       let has = plan-has n m at (namedOf o) h in
-      ap (λ (u : Order). case.Order u) (e ∙ sym (has .is (Constant 0 0))) ∙ entry-before plan n m at (omega (arith, has .inside, total-accepted plan n m counts))
+      ap (λ (u : Order). case.Order u) (e ∙ sym (has .is (Constant 0 0))) ∙ entry-before plan n m at
+      (omega (arith, has .inside, total-accepted plan n m counts))
 
   pub entry-none : length (flat (table n m)) ≤ at → case.Nothing ≡ planEntry plan n m at
   entry-none h = entry-after plan n m at (omega (arith, total-accepted plan n m counts, plan-length n m, flat-length (table n m)))
@@ -83,5 +85,5 @@ module _ (n m at : ℕ) (counts : countsRefusal n m ≡ none) where
       let there = order-there plan n m at o e in
       rw (there .1) (has-here (plan n m) at (Constant 0 0) (omega (arith, there .0, total-accepted plan n m counts)))
 
-  pub nothing-left : case.Nothing ≡ planEntry plan n m at → length (plan n m) ≤ at
-  nothing-left e = omega (arith, nothing-there plan n m at e, total-accepted plan n m counts)
+  pub none-left : case.Nothing ≡ planEntry plan n m at → length (plan n m) ≤ at
+  none-left e = omega (arith, nothing-there plan n m at e, total-accepted plan n m counts)

@@ -1,4 +1,5 @@
--- What the code of the orders cites: digits of sets, orders over names, the shape of a phase, the walk through the table, cells, what is answered at a position, the plan's run, and its bytes.
+-- What the code of the orders cites: digits of sets, orders over names, the shape of a phase, the walk through the table, cells, what is answered at a
+-- position, the plan's run, and its bytes.
 pub mod Digits
 pub mod Walk
 pub mod Shaped

@@ -1,5 +1,5 @@
 -- Orders over names run on a slice, each in turn: one law for a loop of blocks (`Ran`) and one for a block (`Done`), on which the runner's loops rest.
--- On a sheet the plan's run is document 01's (`plan-run`).
+-- On a sheet the plan's run is document 01's (`stepped-plan-is`).
 use mathlib.Core.Path.{_≡_, refl, sym, ap, _∙_}
 use mathlib.Core.Bool.{false}
 use mathlib.Core.List.{List, [], _∷_, _++_, map, map-append}
@@ -43,8 +43,8 @@ module _ (P : Plan) (n m : ℕ) (s : List ℕ) where
   unfolding steppedPlan
   plan-not-stepped e = unless-refused (countsRefusal n m) (steppedAll (P n m) s) s e
 
-pub plan-run : (n m : ℕ) (s : List ℕ) → countsRefusal n m ≡ none → IsSheet s → steppedPlan plan n m s ≡ runOf (plan n m) s
-plan-run n m s e h =
+pub stepped-plan-is : (n m : ℕ) (s : List ℕ) → countsRefusal n m ≡ none → IsSheet s → steppedPlan plan n m s ≡ runOf (plan n m) s
+stepped-plan-is n m s e h =
     let c = counted n m e in
     plan-stepped plan n m s e ∙ stepped-all-is (plan n m) s h (plan-orders n m (c .bids) (c .pools .most))
 
@@ -110,7 +110,8 @@ module _ (n m : ℕ) where
     unfolding ranOf steppedAll
     done-none = record { within = omega arith; ran = refl }
 
-    done-one : (s t : List ℕ) (count : ℕ) (o : OrderOn Name) → Done block start s count → count < length block → o ≡ getD block count (constant ZeroCell 0)
+    done-one : (s t : List ℕ) (count : ℕ) (o : OrderOn Name) → Done block start s count → count < length block
+        → o ≡ getD block count (constant ZeroCell 0)
         → t ≡ stepped s (orderOf (renamed (cellOf n m) o)) → Done block start t (count + 1)
     unfolding ranOf steppedAll
     done-one s t count o h l e g = record {
@@ -134,7 +135,8 @@ module _ (n m : ℕ) where
 
   -- one order of a phase, as the code makes, numbers and runs it
   pub next-order : (p : Phase) (i q j r : ℕ) → InPhase p i q j r → (start s t : List ℕ) (o : NamedOrder) (order : Order)
-      → Done (partAt p q .block i j) start s r → namedOf o ≡ orderIn p i q j r → order ≡ numberedOf n m o → t ≡ stepped s order → Done (partAt p q .block i j) start t (r + 1)
+      → Done (partAt p q .block i j) start s r → namedOf o ≡ orderIn p i q j r → order ≡ numberedOf n m o → t ≡ stepped s order
+      → Done (partAt p q .block i j) start t (r + 1)
   unfolding numberedOf orderIn named
   next-order p i q j r place start s t o order h e f g =
       done-one (partAt p q .block i j) start s t r (namedOf o) h (omega (arith, place .place, partAt p q .fair i j)) e (g ∙ ap (stepped s) f)

@@ -141,13 +141,6 @@ pub record InPhase (p : Phase) (i q j r : ℕ) : Type 0 where
 unfoldable pub orderIn : Phase → (i q j r : ℕ) → OrderOn Name
 orderIn p i q j r = named (partAt p q .block i j) r
 
--- in phase K, known by an equation
-pub into : (n m k K i q j r : ℕ) → k ≡ K → InPhase (phaseAt n m k) i q j r → InPhase (phaseAt n m K) i q j r
-into n m k K i q j r e h = rw e at h
-
-pub outof : (n m k K i q j r : ℕ) (o : OrderOn Name) → k ≡ K → o ≡ orderIn (phaseAt n m K) i q j r → o ≡ orderIn (phaseAt n m k) i q j r
-outof n m k K i q j r o e h = rw e h
-
 -- in part Q, known by an equation
 pub in-part : (p : Phase) (i q Q j r : ℕ) → q ≡ Q → InPhase p i q j r → (j < partAt p Q .columns) × (r < partAt p Q .turn)
 in-part p i q Q j r e h = (rw e at (h .column), rw e at (h .place))
@@ -157,14 +150,16 @@ unfolding orderIn
 of-part p i q Q j r e = rw e
 
 -- the only order of part Q
-pub one-of : (p : Phase) (i q Q j r : ℕ) → q ≡ Q → InPhase p i q j r → partAt p Q .turn ≡ 1 → getD (partAt p Q .block i j) 0 (constant ZeroCell 0) ≡ orderIn p i q j r
+pub one-of : (p : Phase) (i q Q j r : ℕ) → q ≡ Q → InPhase p i q j r → partAt p Q .turn ≡ 1
+    → getD (partAt p Q .block i j) 0 (constant ZeroCell 0) ≡ orderIn p i q j r
 unfolding orderIn named
 one-of p i q Q j r e h f =
     let r0 : r ≡ 0 = omega (arith, in-part p i q Q j r e h .1) in
     rw (e, r0)
 
 -- a part that sums over subsets of the cells X: the code knows the cell of the lowest pool
-pub sum-at : (p : Phase) (i q Q j r m : ℕ) (X : ℕ → Name) → q ≡ Q → InPhase p i q j r → partAt p Q .turn ≡ 1 → partAt p Q .block i j ≡ subsetBlock m X j
+pub sum-at : (p : Phase) (i q Q j r m : ℕ) (X : ℕ → Name) → q ≡ Q → InPhase p i q j r → partAt p Q .turn ≡ 1
+    → partAt p Q .block i j ≡ subsetBlock m X j
     → (o : OrderOn Name) (c : Name) → o ≡ named (subsetBlock m (λ _. c) j) 0 → c ≡ X (lowest m j) → o ≡ orderIn p i q j r
 unfolding named
 sum-at p i q Q j r m X e h f b o c g l =
@@ -175,7 +170,8 @@ pub head-of : (p : Phase) (i q Q j r : ℕ) → q ≡ Q → r ≡ 0 → getD (pa
 unfolding orderIn named
 head-of p i q Q j r e f = rw (e, f)
 
-pub loop-of : (p : Phase) (i q Q j r k s : ℕ) (o : OrderOn Name) (f : ℕ → List (OrderOn Name)) → q ≡ Q → 1 ≤ r → partAt p Q .block i j ≡ o ∷ loop k f → ((x : ℕ) → length (f x) ≡ s)
+pub loop-of : (p : Phase) (i q Q j r k s : ℕ) (o : OrderOn Name) (f : ℕ → List (OrderOn Name)) → q ≡ Q → 1 ≤ r → partAt p Q .block i j ≡ o ∷ loop k f
+    → ((x : ℕ) → length (f x) ≡ s)
     → r - 1 < k * s → named (f ((r - 1) / s)) ((r - 1) % s) ≡ orderIn p i q j r
 unfolding orderIn named
 loop-of p i q Q j r k s o f e l b h a =
@@ -190,7 +186,8 @@ loop-of p i q Q j r k s o f e l b h a =
     ∙ in-even f s k h (x / s) (x % s) _ (div-lt-iff-lt-mul g .1 a) block .is (constant ZeroCell 0)))
 
 -- an entry of a loop of blocks of one order
-one-each : (f : ℕ → List (OrderOn Name)) (k : ℕ) → ((x : ℕ) → length (f x) ≡ 1) → (y : ℕ) → y < k → getD (loop k f) y (constant ZeroCell 0) ≡ getD (f y) 0 (constant ZeroCell 0)
+one-each : (f : ℕ → List (OrderOn Name)) (k : ℕ) → ((x : ℕ) → length (f x) ≡ 1) → (y : ℕ) → y < k
+    → getD (loop k f) y (constant ZeroCell 0) ≡ getD (f y) 0 (constant ZeroCell 0)
 one-each f k h y l =
     let e : y ≡ y * 1 + 0 = omega arith in
     ap (λ (z : ℕ). getD (loop k f) z (constant ZeroCell 0)) e
@@ -214,19 +211,30 @@ module _ (n m i q j r : ℕ) (a : q ≢ 0) (b : r ≢ 0) (h : InPhase (cutPhase 
       ∙ loop-of (cutPhase n m) i q 1 j r m m _ (λ x. loop m (cutTurn j x)) second (omega arith) refl
       (λ x. even-length (cutTurn j x) 1 m (λ y. refl) ∙ omega arith) in-lines
 
--- where the row has one part
-module _ (p : Phase) (i q j r : ℕ) (h : InPhase p i q j r) (one : length (p .parts) ≡ 1) where
-  first : q ≡ 0
-  first = omega (arith, h .part)
+-- ---- phase k, known to be phase K, as an arm of a match knows it
 
-  pub within : (j < partAt p 0 .columns) × (r < partAt p 0 .turn)
-  within = in-part p i q 0 j r first h
+module _ (n m k K i q j r : ℕ) (e : k ≡ K) (h : InPhase (phaseAt n m k) i q j r) where
+  pub known-place : InPhase (phaseAt n m K) i q j r
+  known-place = rw e at h
 
-  pub only-part : named (partAt p 0 .block i j) r ≡ orderIn p i q j r
-  only-part = of-part p i q 0 j r first
+  pub known-order : (o : OrderOn Name) → o ≡ orderIn (phaseAt n m K) i q j r → o ≡ orderIn (phaseAt n m k) i q j r
+  known-order o f = rw e f
 
-  pub only : partAt p 0 .turn ≡ 1 → getD (partAt p 0 .block i j) 0 (constant ZeroCell 0) ≡ orderIn p i q j r
-  only f = one-of p i q 0 j r first h f
+  -- where a row has one part
+  module _ (one : length (phaseAt n m K .parts) ≡ 1) where
+    first : q ≡ 0
+    first = omega (arith, known-place .part)
+
+    pub first-turn : r < partAt (phaseAt n m K) 0 .turn
+    first-turn = in-part (phaseAt n m K) i q 0 j r first known-place .1
+
+    pub first-order : (o : OrderOn Name) → o ≡ named (partAt (phaseAt n m K) 0 .block i j) r → o ≡ orderIn (phaseAt n m k) i q j r
+    first-order o f = known-order o (f ∙ of-part (phaseAt n m K) i q 0 j r first)
+
+    -- and a block one order
+    pub only-order : partAt (phaseAt n m K) 0 .turn ≡ 1 → (o : OrderOn Name) → o ≡ getD (partAt (phaseAt n m K) 0 .block i j) 0 (constant ZeroCell 0)
+        → o ≡ orderIn (phaseAt n m k) i q j r
+    only-order single o f = known-order o (f ∙ one-of (phaseAt n m K) i q 0 j r first known-place single)
 
 -- ---- the order at a place of the table
 
@@ -234,9 +242,11 @@ pub has-order : (p : Phase) (i q j r : ℕ) → InPhase p i q j r → Has (partA
 unfolding orderIn named
 has-order p i q j r h = has-here (partAt p q .block i j) r (constant ZeroCell 0) (omega (arith, h .place, partAt p q .fair i j))
 
-pub order-placed : (n m k i q j r : ℕ) → n ≤ bidLimit → m ≤ poolLimit → k < phaseCount → InPhase (phaseAt n m k) i q j r → PlacedOrder n m (orderIn (phaseAt n m k) i q j r)
+pub order-placed : (n m k i q j r : ℕ) → n ≤ bidLimit → m ≤ poolLimit → k < phaseCount → InPhase (phaseAt n m k) i q j r
+    → PlacedOrder n m (orderIn (phaseAt n m k) i q j r)
 unfolding orderIn named phaseAt
 order-placed n m k i q j r h l a b =
     all-at (PlacedOrder n m) (partAt (phaseIn (table n m) k) q .block i j)
-    (block-each (PlacedOrder n m) (table n m) (table-placed n m h l) k q i j (omega (arith, table-length n m)) (b .part) (b .row) (b .column)) r (constant ZeroCell 0)
+    (block-each (PlacedOrder n m) (table n m) (table-placed n m h l) k q i j (omega (arith, table-length n m)) (b .part) (b .row) (b .column)) r
+    (constant ZeroCell 0)
     (omega (arith, b .place, partAt (phaseIn (table n m) k) q .fair i j))

@@ -1,7 +1,7 @@
 -- What each turn of the walker's loops knows: over the parts of a row, over the phases, and over the table of their sizes.
 use mathlib.Core.Path.{_≡_, refl, sym, ap, _∙_}
 use mathlib.Core.List.{List}
-use Prim.Native.Nat.{ℕ, zero, suc, _+_, _*_, _-_, _%_, _/_, _≤_, _<_}
+use Prim.Native.Nat.{ℕ, suc, _+_, _*_, _-_, _%_, _/_, _≤_, _<_}
 use native.Mathlib.Nat.{mod-lt, div-lt-iff-lt-mul, div-add-mod', eq-or-lt-of-le}
 use mathlib.Core.Logic.{_⊎_, inl, inr}
 use native.Mathlib.Omega.{arith}
@@ -14,7 +14,7 @@ use Rattle.orders.specs.declared.table.Columns.{Columns}
 use Rattle.orders.specs.declared.table.Shape.{Shape}
 use Rattle.plan.specs.Phased.{partAt, partSize, rowSize, partStart, phaseSize, phaseStart, tableSize, phaseIn, rowOf, flat, flat-length, Has, in-row, in-rows, in-table}
 use Rattle.plan.specs.Table.{Phase, phaseAt, phaseCount}
-use Rattle.orders.specs.Shaped.{phaseLimit, IsShape, IsPart, SmallPart, PartIn, part-is, InPhase, orderIn, has-order, positive-right}
+use Rattle.orders.specs.Shaped.{phaseLimit, IsShape, SmallPart, PartIn, part-is, InPhase, orderIn, has-order, positive-right}
 
 -- row i and part q are among those of a phase
 pub record InPart (p : Phase) (i q : ℕ) : Type 0 where
@@ -24,16 +24,16 @@ pub record InPart (p : Phase) (i q : ℕ) : Type 0 where
 -- ---- in a row
 
 -- the first q parts are passed
-pub record Passed (p : Phase) (x y q : ℕ) : Type 0 where
+pub record PartsPassed (p : Phase) (x y q : ℕ) : Type 0 where
   pub parts : q ≤ length (p .parts)
   pub left : x ≡ partStart p q + y
 
 module _ (p : Phase) (x : ℕ) where
-  pub passed-none : Passed p x x 0
+  pub parts-none : PartsPassed p x x 0
   unfolding partStart sumTo
-  passed-none = record { parts = omega arith; left = omega arith }
+  parts-none = record { parts = omega arith; left = omega arith }
 
-  module _ (y q : ℕ) (h : Passed p x y q) (l : x < rowSize p) where
+  module _ (y q : ℕ) (h : PartsPassed p x y q) (l : x < rowSize p) where
     pub part-left : q < length (p .parts)
     unfolding rowSize partStart
     part-left = go (eq-or-lt-of-le (h .parts))
@@ -42,11 +42,14 @@ module _ (p : Phase) (x : ℕ) where
         go (inr a) = a
         go (inl e) = absurd (omega (arith, h .left, ap (λ (k : ℕ). sumTo k (partSize p)) e))
 
-    pub passed-one : (size : ℕ) → size ≡ partSize p q → size ≤ y → Passed p x (y - size) (q + 1)
+    pub parts-one : (size : ℕ) → size ≡ partSize p q → size ≤ y → PartsPassed p x (y - size) (q + 1)
     unfolding partStart sumTo
-    passed-one size e k = record {
+    parts-one size e k = record {
       parts = omega (arith, part-left);
-      left = h .left ∙ (let w : sumTo q (partSize p) + y ≡ sumTo (suc q) (partSize p) + (y - size) = omega (arith, e) in w ∙ ap (λ (z : ℕ). sumTo z (partSize p) + (y - size)) (sym (add-one q)));
+      left =
+          h .left
+          ∙ (let w : sumTo q (partSize p) + y ≡ sumTo (suc q) (partSize p) + (y - size) = omega (arith, e) in
+          w ∙ ap (λ (z : ℕ). sumTo z (partSize p) + (y - size)) (sym (add-one q)));
     }
 
     -- the place within part q
@@ -61,36 +64,38 @@ module _ (p : Phase) (x : ℕ) where
         positive : 0 < turn
         positive = rw e (positive-right (partAt p q .columns) (partAt p q .turn) y k)
 
-    pub found-has : (i turn : ℕ) (a : i < p .rows) (e : turn ≡ partAt p q .turn) (k : y < partSize p q) (o : OrderOn Name) → o ≡ orderIn p i q (y / turn) (y % turn) → Has (rowOf p i) x o
+    pub found-has : (i turn : ℕ) (a : i < p .rows) (e : turn ≡ partAt p q .turn) (k : y < partSize p q) (o : OrderOn Name)
+        → o ≡ orderIn p i q (y / turn) (y % turn) → Has (rowOf p i) x o
     found-has i turn a e k o f =
         let place = found i turn a e k in
         let has = in-row p i q (y / turn) (y % turn) o (place .part) (place .column) (rw f (has-order p i q (y / turn) (y % turn) place)) in
-        let w : x ≡ partStart p q + ((y / turn) * partAt p q .turn + y % turn) = h .left ∙ ap (λ (z : ℕ). partStart p q + z) (sym (div-add-mod' y turn) ∙ ap (λ (z : ℕ). (y / turn) * z + y % turn) e) in
+        let w : x ≡ partStart p q + ((y / turn) * partAt p q .turn + y % turn)
+        = h .left ∙ ap (λ (z : ℕ). partStart p q + z) (sym (div-add-mod' y turn) ∙ ap (λ (z : ℕ). (y / turn) * z + y % turn) e) in
         rw w has
 
 -- ---- in the table
 
 -- the first k phases are passed
-pub record Gone (ps : List Phase) (x y k : ℕ) : Type 0 where
+pub record PhasesPassed (ps : List Phase) (x y k : ℕ) : Type 0 where
   pub phases : k ≤ length ps
   pub left : x ≡ phaseStart ps k + y
 
 module _ (ps : List Phase) (x : ℕ) where
-  pub gone-none : Gone ps x x 0
+  pub phases-none : PhasesPassed ps x x 0
   unfolding phaseStart sumTo
-  gone-none = record { phases = omega arith; left = omega arith }
+  phases-none = record { phases = omega arith; left = omega arith }
 
   -- past the last phase is past the list's end
-  pub gone-all : (y k : ℕ) → Gone ps x y k → length ps ≤ k → length (flat ps) ≤ x
+  pub phases-all : (y k : ℕ) → PhasesPassed ps x y k → length ps ≤ k → length (flat ps) ≤ x
   unfolding tableSize phaseStart
-  gone-all y k h l =
+  phases-all y k h l =
       let e : k ≡ length ps = omega (arith, h .phases) in
       omega (arith, h .left, flat-length ps, ap (λ (u : ℕ). sumTo u (λ v. phaseSize (phaseIn ps v))) e)
 
-  module _ (y k : ℕ) (h : Gone ps x y k) (l : k < length ps) where
-    pub gone-one : (size : ℕ) → size ≡ phaseSize (phaseIn ps k) → size ≤ y → Gone ps x (y - size) (k + 1)
+  module _ (y k : ℕ) (h : PhasesPassed ps x y k) (l : k < length ps) where
+    pub phases-one : (size : ℕ) → size ≡ phaseSize (phaseIn ps k) → size ≤ y → PhasesPassed ps x (y - size) (k + 1)
     unfolding phaseStart sumTo
-    gone-one size e a = record {
+    phases-one size e a = record {
       phases = omega arith;
       left =
           h .left
@@ -149,7 +154,8 @@ abbrev pub AreSizes : (n m : ℕ) → List ℕ → Type 0
 AreSizes n m sizes = SizesTo n m phaseCount sizes
 
 -- one more entry
-pub one-more-size : (n m k size : ℕ) (sizes : List ℕ) → SizesTo n m k sizes → IsSize n m k size → k < length sizes → SizesTo n m (k + 1) (set sizes k size)
+pub one-more-size : (n m k size : ℕ) (sizes : List ℕ) → SizesTo n m k sizes → IsSize n m k size → k < length sizes
+    → SizesTo n m (k + 1) (set sizes k size)
 one-more-size n m k size sizes h e l t u = go (eq-or-lt-of-le u)
   where
     go : (suc t ≡ k + 1) ⊎ (suc t < k + 1) → IsSize n m t (getD (set sizes k size) t 0)
@@ -159,19 +165,20 @@ one-more-size n m k size sizes h e l t u = go (eq-or-lt-of-le u)
     go (inr r) = rw (getD-set-other sizes k t size 0 (λ q. absurd (omega arith))) (h t (omega arith))
 
 -- the first k phases are counted
-pub record Counted (ps : List Phase) (size k : ℕ) : Type 0 where
+pub record PhasesCounted (ps : List Phase) (size k : ℕ) : Type 0 where
   pub phases : k ≤ length ps
   pub counted : size ≡ phaseStart ps k
   pub bound : size ≤ k * phaseLimit
 
 module _ (ps : List Phase) where
-  pub counted-none : Counted ps 0 0
+  pub count-none : PhasesCounted ps 0 0
   unfolding phaseStart sumTo
-  counted-none = record { phases = omega arith; counted = refl; bound = omega arith }
+  count-none = record { phases = omega arith; counted = refl; bound = omega arith }
 
-  pub counted-one : (size k more : ℕ) → Counted ps size k → k < length ps → more ≡ phaseSize (phaseIn ps k) → more ≤ phaseLimit → Counted ps (size + more) (k + 1)
+  pub count-one : (size k more : ℕ) → PhasesCounted ps size k → k < length ps → more ≡ phaseSize (phaseIn ps k) → more ≤ phaseLimit
+      → PhasesCounted ps (size + more) (k + 1)
   unfolding phaseStart sumTo
-  counted-one size k more h l e b = record {
+  count-one size k more h l e b = record {
     phases = omega arith;
     counted =
         (let w : size + more ≡ sumTo (suc k) (λ v. phaseSize (phaseIn ps v)) = omega (arith, h .counted, e) in w)
@@ -179,8 +186,8 @@ module _ (ps : List Phase) where
     bound = omega (arith, h .bound);
   }
 
-  pub counted-all : (size k : ℕ) → Counted ps size k → length ps ≤ k → size ≡ tableSize ps
+  pub count-all : (size k : ℕ) → PhasesCounted ps size k → length ps ≤ k → size ≡ tableSize ps
   unfolding phaseStart tableSize
-  counted-all size k h l =
+  count-all size k h l =
       let e : k ≡ length ps = omega (arith, h .phases) in
       h .counted ∙ ap (λ (z : ℕ). sumTo z (λ v. phaseSize (phaseIn ps v))) e

@@ -68,7 +68,8 @@ module _ (s a b : ℕ) where
   pub rest-chosen : (x : Bool) (r : ℕ) → x ≡ leaves s a b → named (lowered (Temporary 2) (restCell x s a b)) r ≡ named (restTurn a b s) r
   rest-chosen x r e = rw e
 
-  pub take-chosen : (l : ℕ) (x y : Bool) → x ≡ leaves s a b → y ≡ leaves s b a → difference (Slack s) (Slack s) (takenCell x y l) ≡ named (takeTurn l a b s) 0
+  pub take-chosen : (l : ℕ) (x y : Bool) → x ≡ leaves s a b → y ≡ leaves s b a
+      → difference (Slack s) (Slack s) (takenCell x y l) ≡ named (takeTurn l a b s) 0
   unfolding named
   take-chosen l x y e f = rw (e, f)
 
@@ -108,12 +109,14 @@ module _ (n m : ℕ) where
   unfoldable pub numberedOf : NamedOrder → Order
   numberedOf o = orderOf (renamed (cellOf n m) (namedOf o))
 
-  pub constant-numbered : (o : NamedOrder) (d : CellName) (k x : ℕ) → o ≡ made.Constant d k → x ≡ cellOf n m (nameOf d) → unit.Constant x k ≡ numberedOf o
+  pub constant-numbered : (o : NamedOrder) (d : CellName) (k x : ℕ) → o ≡ made.Constant d k → x ≡ cellOf n m (nameOf d)
+      → unit.Constant x k ≡ numberedOf o
   unfolding numberedOf
   constant-numbered o d k x e f = ap (λ (c : ℕ). unit.Constant c k) f ∙ sym (ap numberedOf e)
 
   pub operate-numbered : (o : NamedOrder) (kind : ℕ) (d a b : CellName) (x y z : ℕ) → o ≡ made.Operate kind d a b
-      → x ≡ cellOf n m (nameOf d) → y ≡ cellOf n m (nameOf a) → z ≡ cellOf n m (nameOf b) → (r : Order) → r ≡ orderOf (operate (operationOf kind) x y z) → r ≡ numberedOf o
+      → x ≡ cellOf n m (nameOf d) → y ≡ cellOf n m (nameOf a) → z ≡ cellOf n m (nameOf b) → (r : Order)
+      → r ≡ orderOf (operate (operationOf kind) x y z) → r ≡ numberedOf o
   unfolding numberedOf
   operate-numbered o kind d a b x y z e f g h r q = q ∙ rw (f, g, h) (sym (ap numberedOf e))
 

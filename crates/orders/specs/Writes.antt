@@ -12,8 +12,8 @@ use Rattle.laws.specs.Refusal.{unless-refused}
 use Rattle.orders.specs.declared.Written.{Written}
 
 -- "the counts of bytes and orders and the next position"
-abbrev pub countsOf : Written → given.Written
-countsOf w = record { bytes = w .bytes; orders = w .orders; next = w .next }
+abbrev pub countsWritten : Written → given.Written
+countsWritten w = record { bytes = w .bytes; orders = w .orders; next = w .next }
 
 -- the three; all 0 for refused counts
 unfoldable pub filledCounts : Plan → (n m at room : ℕ) → given.Written

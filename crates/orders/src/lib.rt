@@ -6,7 +6,7 @@ ghost use Rattle.definitions.specs.Plan.{total};
 ghost use Rattle.plan.specs.Plan.{plan};
 ghost use Rattle.orders.specs.Entry.{planEntry};
 ghost use Rattle.orders.specs.Runs.{steppedPlan};
-ghost use Rattle.orders.specs.Writes.{countsOf, filledCounts, filledSlice};
+ghost use Rattle.orders.specs.Writes.{countsWritten, filledCounts, filledSlice};
 use crate::run::run_phases;
 use crate::walk::length_of;
 use crate::walk::order_in;
@@ -79,7 +79,7 @@ pub struct Written {
 
 // Writes the plan's orders from a position on, as many whole ones as fit, and keeps the bytes after them; nothing for refused counts.
 pub fn write_orders(n: usize, m: usize, at: usize, out: &mut [u8]) -> Written
-    ensures counts { λ r. ⌜ countsOf r ≡ filledCounts plan n m at (length (now (out .entry))) ⌝ }
+    ensures counts { λ r. ⌜ countsWritten r ≡ filledCounts plan n m at (length (now (out .entry))) ⌝ }
     ensures slice { λ _. ⌜ now (out .exit) ≡ filledSlice plan n m at (now (out .entry)) ⌝ }
 {
     if !is_accepted(judge_counts(n, m)) {

@@ -7,7 +7,7 @@ ghost use Rattle.definitions.specs.Plan.{bytesWritten, writtenCounts, over};
 ghost use Rattle.plan.specs.Plan.{plan};
 ghost use Rattle.layout.specs.Tables.{IsLayout};
 ghost use Rattle.orders.specs.Steps.{AreSizes};
-ghost use Rattle.orders.specs.Writes.{countsOf};
+ghost use Rattle.orders.specs.Writes.{countsWritten};
 use crate::Entry;
 use crate::Written;
 use crate::table::PHASES;
@@ -28,7 +28,7 @@ pub fn write_from(
     requires { ⌜ countsRefusal n m ≡ none ⌝ }
     requires { ⌜ IsLayout n m (now starts) (now columns) ⌝ }
     requires { ⌜ AreSizes n m (now sizes) ⌝ }
-    ensures counts { λ r. ⌜ countsOf r ≡ writtenCounts plan n m at (length (now (out .entry))) ⌝ }
+    ensures counts { λ r. ⌜ countsWritten r ≡ writtenCounts plan n m at (length (now (out .entry))) ⌝ }
     ensures slice { λ _. ⌜ now (out .exit) ≡ over (bytesWritten plan n m at (length (now (out .entry)))) (now (out .entry)) ⌝ }
 {
     let mut next = at;

@@ -1,16 +1,14 @@
 -- Asking a plan at a position: refused by the counts or past the total, ended at the total, an order before it.
 use Prim.Native.Nat.{ℕ, _+_, _≤_, _<_}
 use mathlib.Core.Path.{_≡_, refl, ap, _∙_}
-use mathlib.Core.Bool.{Bool, false, true≢false}
+use mathlib.Core.Bool.{false, true≢false}
 use native.Mathlib.Omega.{arith}
 use lib.ListN.{length, getD}
 use borrow.Author.Tests.{lt-ltb, le-ltb}
-use Rattle.definitions.specs.declared.Order.{Order}
 use Rattle.definitions.specs.declared.Order.the-variants.{Constant}
 use Rattle.definitions.specs.Answers.{Refusal, none, refuse, first, unless, isNone}
 use Rattle.definitions.specs.Calls.{countsRefusal}
 use Rattle.definitions.specs.Plan.{Plan, order, ended, refused, entry, answered, positionRefusal, asked, askRefusal, total}
-use Rattle.laws.specs.Tests.{Lt?, less, more, lt?}
 use Rattle.laws.specs.Refusal.{unless-refused}
 
 module _ (P : Plan) (n m at : ℕ) where

@@ -3,7 +3,7 @@
 use mathlib.Core.Path.{_≡_, refl, sym, ap, subst, _∙_}
 use mathlib.Core.Logic.{_⊎_, inl, inr}
 use mathlib.Core.List.{List, [], _∷_, _++_, map, append-assoc}
-use Prim.Native.Nat.{ℕ, zero, suc, _+_, _*_, _≤_, _<_}
+use Prim.Native.Nat.{ℕ, zero, suc, _+_, _*_, _<_}
 use native.Mathlib.Nat.{not-suc-le-zero, eq-or-lt-of-le, le-of-suc-le-suc, le-refl}
 use native.Mathlib.Omega.{arith}
 use lib.ListN.{length, getD, length-append, length-map, List·getD-append}
@@ -38,10 +38,11 @@ module _ {A : Type 0} where
   abbrev pub phase : ℕ → List (PartOf A) → PhaseOf A
   phase k ts = record { rows = k; parts = ts }
 
-  -- a part and a phase of nothing, which stand for those past the last
+  -- a part of nothing, which stands for those past the last
   abbrev pub noPart : PartOf A
   noPart = part 0 0 (λ i j. []) (λ i j. refl)
 
+  -- and such a phase
   abbrev pub noPhase : PhaseOf A
   noPhase = phase 0 []
 

@@ -1,12 +1,11 @@
 -- The plan's length and the limit on it (`plan-length`, `plan-bound`), its order at a position (`plan-has`), and that each of its orders is one of the
 -- machine's and writes no input (`table-placed`, `plan-writes-no-input`).
 use mathlib.Core.Path.{_≡_, refl, _∙_}
-use mathlib.Core.List.{List, [], _∷_, map}
 use Prim.Native.Nat.{ℕ, _+_, _*_, _^_, _≤_, _<_}
 use native.Mathlib.Nat.{mul-le-mul, mul-le-mul-left, pow-le-pow-left}
 use native.Mathlib.Omega.{arith}
 use lib.Pow.{pow-mono}
-use lib.ListN.{length, getD, length-map}
+use lib.ListN.{length, length-map}
 use Rattle.definitions.specs.declared.Order.{Order}
 use Rattle.definitions.specs.declared.Order.the-variants as unit
 use Rattle.definitions.specs.Limits.{bidLimit, poolLimit, cellCount, modulus}
@@ -72,7 +71,15 @@ module _ (n m : ℕ) where
       go : (sets power : ℕ) → sets ≤ 2 ^ poolLimit → 2 ^ 6 ≤ power
           → n * n * (1 + 2 * m) + n * (29 + 17 * m + 12 * sets) + (8 + 11 * m + 2 * (m * m) + sets * (7 + 6 * (m * m))) ≤ n * (100 * n + 40 * power) + 10000
       go sets power a b =
-          omega (arith, mul-le-mul-left (n * n) k, mul-le-mul-left n k, mul-le-mul-left n a, mul-le-mul-left n b, mul-le-mul k k, mul-le-mul a (mul-le-mul k k))
+          omega (
+            arith,
+            mul-le-mul-left (n * n) k,
+            mul-le-mul-left n k,
+            mul-le-mul-left n a,
+            mul-le-mul-left n b,
+            mul-le-mul k k,
+            mul-le-mul a (mul-le-mul k k),
+          )
 
   -- ---- the order at a position
 
@@ -119,7 +126,9 @@ module _ (n m : ℕ) where
 
     pub table-placed : EachPhase PlacedOrder (table n m)
     unfolding table
-    table-placed = each-last (Proper n m) PlacedOrder proper-placed (work n m) (work-each n m (omega arith)) (zeroPhase n m) ((λ _ c _ l. (zero-placed c l, tt)), tt)
+    table-placed =
+        each-last (Proper n m) PlacedOrder proper-placed (work n m) (work-each n m (omega arith)) (zeroPhase n m)
+        ((λ _ c _ l. (zero-placed c l, tt)), tt)
 
   -- one of the machine's orders, with a target that may be written
   abbrev pub WritesWell : OrderOn ℕ → Type 0

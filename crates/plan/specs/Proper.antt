@@ -1,23 +1,22 @@
 -- Every order of the work names cells of the families' tables and writes no input (`work-each`).
-use mathlib.Core.Path.{refl}
 use mathlib.Core.Bool.{Bool, true, false, cond}
 use mathlib.Core.List.{[], _∷_}
 use Prim.Native.Nat.{ℕ, _*_, _%_, _/_, _^_, _≤_, _<_}
 use native.Mathlib.Omega.{arith}
-use lib.Dec.{ltb, lit<}
+use lib.Dec.{ltb}
 use Rattle.definitions.specs.Limits.{modulus}
 use Rattle.laws.specs.Tests.{Eq?, same, diff, eq?}
 use Rattle.plan.specs.Orders.{OrderOn, constant, operate, Name, at, family}
 use Rattle.plan.specs.Layout.{Named}
-use Rattle.plan.specs.Names.{amounts, ranksBefore, ranksWith, familyCount, rowsOf, columnsOf, Capacity, Temporary, ZeroCell, Demand, SizeBefore, SizeWith, Placement}
+use Rattle.plan.specs.Names.{amounts, sizesBefore, sizesWith, ranksBefore, ranksWith, familyCount, rowsOf, columnsOf, Capacity, Temporary, ZeroCell, Demand, Placement}
 use Rattle.plan.specs.Subsets.{leaves, lowest, others, lowest-below, others-below}
 use Rattle.plan.specs.Running.{subsetOrder, subsetBlock, lowered}
 use Rattle.plan.specs.Blocks.{cutTurn, testAt, testOrder, gainTurn, costTurn, restStart, restCell, restTurn, flowBlock, takenCell, takeTurn}
 use Rattle.plan.specs.Lines.{line-ends}
 use Rattle.plan.specs.Loops.{loop}
 use Rattle.plan.specs.Entries.{_&_, All, all-loop}
-use Rattle.plan.specs.Phased.{EachPhase}
-use Rattle.plan.specs.Table.{cutBlock, sizeBeforeTurn, work}
+use Rattle.plan.specs.Phased.{EachPart, EachPhase}
+use Rattle.plan.specs.Table.{cutBlock, sizeBeforeTurn, rankPhase, work}
 
 module _ (n m : ℕ) where
   -- a name that has a cell
@@ -69,13 +68,23 @@ module _ (n m : ℕ) where
       & (v, h, v, omega arith)
       & tt
 
+  -- ranks in family u of the sizes in family t
+  rank-proper : (t u : ℕ) → ((i p : ℕ) → i < n → p < m → Valid (at t i p)) → ((i : ℕ) → i < n → Valid (at u i 0)) → amounts ≤ u
+      → EachPart Proper n (rankPhase n m (at t) (λ i. at u i 0) .parts)
+  rank-proper t u sizes ranks h =
+      (λ i S a b. subset-proper (at t i) (λ p l. sizes i p a l) S b)
+      & (λ i _ a _. (ranks i a, h, omega arith) & tt)
+      & (λ i S a b. cost-proper u i S (ranks i a) h b)
+      & tt
+
   -- ---- line l
 
   module _ (l : ℕ) (h : l < m * m) where
-    -- its ends
+    -- where it begins
     abbrev a : ℕ
     a = l / m
 
+    -- where it ends
     abbrev b : ℕ
     b = l % m
 
@@ -123,9 +132,9 @@ module _ (n m : ℕ) where
       & ((λ p j a b. omega arith) & (λ p i a b. omega arith) & tt)
       & ((λ _ S a b. subset-proper Demand (λ p l. omega arith) S b) & (λ _ S a b. cut-proper S b) & tt)
       & ((λ i p a b. omega arith) & turn-proper & tt)
-      & ((λ i S a b. subset-proper (SizeBefore i) (λ p l. omega arith) S b) & (λ i j a b. omega arith) & (λ i S a b. cost-proper ranksBefore i S (omega arith) (omega arith) b) & tt)
+      & rank-proper sizesBefore ranksBefore (λ i p a b. omega arith) (λ i a. omega arith) (omega arith)
       & ((λ i p a b. omega arith) & tt)
-      & ((λ i S a b. subset-proper (SizeWith i) (λ p l. omega arith) S b) & (λ i j a b. omega arith) & (λ i S a b. cost-proper ranksWith i S (omega arith) (omega arith) b) & tt)
+      & rank-proper sizesWith ranksWith (λ i p a b. omega arith) (λ i a. omega arith) (omega arith)
       & ((λ i j a b. omega arith) & tt)
       & ((λ i j a b. omega arith) & tt)
       & ((λ p j a b. omega arith) & (λ p i a b. omega arith) & tt)

@@ -29,14 +29,17 @@ module _ (n m : ℕ) where
   abbrev pub subsetPart : (ℕ → ℕ → Name) → Part
   subsetPart X = part (2 ^ m) 1 (λ i. subsetBlock m (X i)) (λ i S. refl)
 
+  -- such a part as a list
   abbrev pub subsetBlocks : (ℕ → Name) → Block
   subsetBlocks X = stretch 0 (subsetPart (λ _. X))
 
   -- ---- the demand of each pool
 
+  -- its start, then a turn for each bid
   abbrev pub demandPhase : Phase
   demandPhase = phase m (each 1 demandStart (λ p. refl) ∷ part n 2 demandTurn (λ p i. refl) ∷ [])
 
+  -- row p: the demand of pool p
   abbrev pub demandBlock : ℕ → Block
   demandBlock p = rowOf demandPhase p
 
@@ -52,6 +55,7 @@ module _ (n m : ℕ) where
       one : (a : ℕ) → length (loop m (cutTurn S a)) ≡ m
       one a = omega (arith, even-length (cutTurn S a) 1 m (λ b. refl))
 
+  -- the demands' sums over all sets, then the cuts
   abbrev pub cutPhase : Phase
   cutPhase = phase 1 (subsetPart (λ _. Demand) ∷ part (2 ^ m) (1 + m * m) (λ _. cutBlock) (λ _. cut-length) ∷ [])
 
@@ -64,14 +68,17 @@ module _ (n m : ℕ) where
   pub size-before-length : (i j : ℕ) → length (sizeBeforeTurn i j) ≡ 1 + m * 2
   size-before-length i j = omega (arith, even-length (gainTurn i j) 2 m (λ p. refl))
 
+  -- a start for each pool, then a turn for each bid
   abbrev pub sizeBeforePhase : Phase
   sizeBeforePhase = phase n (part m 1 sizeBeforeStart (λ i p. refl) ∷ part n (1 + m * 2) sizeBeforeTurn size-before-length ∷ [])
 
+  -- row i: the sizes before bid i
   abbrev pub sizeBeforeBlock : ℕ → Block
   sizeBeforeBlock i = rowOf sizeBeforePhase i
 
   -- ---- the rank of bids whose sizes stand in the cells X i, in d i: the least cost over all sets
 
+  -- the sizes' sums over all sets, a start, then a turn for each set
   abbrev pub rankPhase : (ℕ → ℕ → Name) → (ℕ → Name) → Phase
   rankPhase X d = phase n (subsetPart X ∷ each 1 (λ i. costStart (d i)) (λ i. refl) ∷ part (2 ^ m) 5 (λ i. costTurn m (d i)) (λ i S. refl) ∷ [])
 
@@ -79,24 +86,29 @@ module _ (n m : ℕ) where
   abbrev pub costBlock : Name → Block
   costBlock d = costStart d ++ loop (2 ^ m) (costTurn m d)
 
+  -- a row of it
   abbrev pub rankBlock : (ℕ → Name) → Name → Block
   rankBlock X d = rowOf (rankPhase (λ _. X) (λ _. d)) 0
 
   -- ---- what is used in each pool
 
+  -- its start, then a turn for each bid
   abbrev pub placementPhase : Phase
   placementPhase = phase m (each 1 placementStart (λ p. refl) ∷ part n 2 placementTurn (λ p i. refl) ∷ [])
 
+  -- row p: what is used in pool p
   abbrev pub placementBlock : ℕ → Block
   placementBlock p = rowOf placementPhase p
 
   -- ---- the slacks before the first line
 
+  -- the placements' sums over all sets, then the slacks
   abbrev pub slackPhase : Phase
   slackPhase = phase 1 (subsetPart (λ _. Placement) ∷ part (2 ^ m) 1 (λ _. slackBlock) (λ _ S. refl) ∷ [])
 
   -- ---- line l, from l / m to l % m: what it leaves unused, its flow, and the slacks after it
 
+  -- the rest's start and a turn for each set, the flow, and a turn for each set
   abbrev pub linePhase : Phase
   linePhase =
       phase (m * m)
@@ -114,14 +126,17 @@ module _ (n m : ℕ) where
   abbrev pub takeBlock : (l a b : ℕ) → Block
   takeBlock l a b = flowBlock l a b ++ loop (2 ^ m) (takeTurn l a b)
 
+  -- row l: line l
   abbrev pub lineBlock : ℕ → Block
   lineBlock l = rowOf linePhase l
 
   -- ---- the highest offer in each pool
 
+  -- its start, then a turn for each bid
   abbrev pub highestOfferPhase : Phase
   highestOfferPhase = phase m (each 1 highestOfferStart (λ p. refl) ∷ part n 5 highestOfferTurn (λ p i. refl) ∷ [])
 
+  -- row p: the highest offer in pool p
   abbrev pub highestOfferBlock : ℕ → Block
   highestOfferBlock p = rowOf highestOfferPhase p
 

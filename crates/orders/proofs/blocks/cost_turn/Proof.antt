@@ -28,7 +28,8 @@ sub-t11 c = omega (arith, sets c)
 returns : tie.Need-returns
 returns c =
     let a = c .before .before .args in
-    ap (λ (k : ℕ). sum (Temporary 2) (Cut (a .s)) (Subset (k - 1 - c .before .before .args .s))) (sets c) ∙ at-place (costTurn (a .m) (nameOf (a .d)) (a .s)) _ 0 (omega (arith, c .before .if1 .taken))
+    ap (λ (k : ℕ). sum (Temporary 2) (Cut (a .s)) (Subset (k - 1 - c .before .before .args .s))) (sets c) ∙ at-place
+    (costTurn (a .m) (nameOf (a .d)) (a .s)) _ 0 (omega (arith, c .before .if1 .taken))
 
 sub-lowered-order : tie.Need-sub-lowered-order
 sub-lowered-order c = search needs
@@ -39,7 +40,8 @@ lowered-order-requires c κs = search needs
 returns-2 : tie.Need-returns-2
 returns-2 c =
     let a = c .before .before .args in
-    c .lowered-order .ensures ∙ named-next (sum (Temporary 2) (Cut (a .s)) (Subset (complement (a .m) (a .s)))) (lowered (nameOf (a .d)) (Temporary 2)) _ (omega (arith, c .before .if1 .left))
+    c .lowered-order .ensures ∙ named-next (sum (Temporary 2) (Cut (a .s)) (Subset (complement (a .m) (a .s))))
+    (lowered (nameOf (a .d)) (Temporary 2)) _ (omega (arith, c .before .if1 .left))
 
 pub cost-turn-spec : {M : Type 1} → statement M
 cost-turn-spec =

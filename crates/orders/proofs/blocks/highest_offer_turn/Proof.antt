@@ -21,7 +21,8 @@ raised-order-requires c κs = search needs
 returns-2 : tie.Need-returns-2
 returns-2 c =
     let a = c .before .before .args in
-    c .raised-order .ensures ∙ named-next (product (Temporary 2) (Membership (a .i) (a .p)) (Offer (a .i))) (raised (HighestOffer (a .p)) (Temporary 2)) _ (omega (arith, c .before .if1 .left))
+    c .raised-order .ensures ∙ named-next (product (Temporary 2) (Membership (a .i) (a .p)) (Offer (a .i)))
+    (raised (HighestOffer (a .p)) (Temporary 2)) _ (omega (arith, c .before .if1 .left))
 
 pub highest-offer-turn-spec : {M : Type 1} → statement M
 highest-offer-turn-spec = tie.close (tie.spec returns sub-raised-order raised-order-requires returns-2)

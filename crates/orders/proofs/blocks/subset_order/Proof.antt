@@ -17,7 +17,8 @@ other-pools-requires c κs = search needs
 returns-2 : tie.Need-returns-2
 returns-2 c =
     let a = c .before .before .args in
-    ap (λ (k : ℕ). sum (Subset (a .s)) (Subset k) (nameOf (a .a))) (c .other-pools .ensures .0) ∙ subset-next (a .m) (a .s) (λ p. nameOf (a .a)) (c .before .if1 .left)
+    ap (λ (k : ℕ). sum (Subset (a .s)) (Subset k) (nameOf (a .a))) (c .other-pools .ensures .0) ∙ subset-next (a .m) (a .s) (λ p. nameOf (a .a))
+    (c .before .if1 .left)
 
 pub subset-order-spec : {M : Type 1} → statement M
 subset-order-spec = tie.close (tie.spec returns other-pools-requires returns-2)

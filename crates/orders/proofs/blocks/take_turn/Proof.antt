@@ -20,12 +20,14 @@ is-leaving-requires-2 c κs = search needs
 returns-2 : tie.Need-returns-2
 returns-2 c =
     let a = c .before .before .before .before .args in
-    take-chosen (a .s) (a .a) (a .b) _ false true (sym (c .before .before .if1 .left) ∙ c .before .before .before .is-leaving .ensures) (sym (c .if2 .taken) ∙ c .before .is-leaving2 .ensures)
+    take-chosen (a .s) (a .a) (a .b) _ false true (sym (c .before .before .if1 .left) ∙ c .before .before .before .is-leaving .ensures)
+    (sym (c .if2 .taken) ∙ c .before .is-leaving2 .ensures)
 
 returns-3 : tie.Need-returns-3
 returns-3 c =
     let a = c .before .before .before .before .args in
-    take-chosen (a .s) (a .a) (a .b) _ false false (sym (c .before .before .if1 .left) ∙ c .before .before .before .is-leaving .ensures) (sym (c .if2 .left) ∙ c .before .is-leaving2 .ensures)
+    take-chosen (a .s) (a .a) (a .b) _ false false (sym (c .before .before .if1 .left) ∙ c .before .before .before .is-leaving .ensures)
+    (sym (c .if2 .left) ∙ c .before .is-leaving2 .ensures)
 
 pub take-turn-spec : {M : Type 1} → statement M
 take-turn-spec =

@@ -17,7 +17,8 @@ mul-result-2 c = search needs
 element-copy-out-result-2 : tie.Need-element-copy-out-result-2
 element-copy-out-result-2 c = search needs
 
-cell : (c : tie.After-result2) → let a = c .before .before .args in CellBy (a .n) (a .m) (a .c .0) (a .c .1) (a .c .2) (a .starts .now) (a .columns .now)
+cell : (c : tie.After-result2)
+    → let a = c .before .before .args in CellBy (a .n) (a .m) (a .c .0) (a .c .1) (a .c .2) (a .starts .now) (a .columns .now)
 cell c = let p = c .before .before .pre in cell-by _ _ _ _ _ _ _ (p .0) (p .1)
 
 mul-result-3 : tie.Need-mul-result-3

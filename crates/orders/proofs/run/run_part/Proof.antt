@@ -1,5 +1,5 @@
 -- `run_part` meets its contract. The loop has run the first j columns.
-use mathlib.Core.Path.{_≡_, ap, _∙_}
+use mathlib.Core.Path.{ap, _∙_}
 use Prim.Native.Nat.{ℕ, _-_}
 use native.Mathlib.Omega.{arith}
 use Rattle.plan.specs.Loops.{loop}

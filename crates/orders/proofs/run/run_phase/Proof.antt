@@ -1,5 +1,5 @@
 -- `run_phase` meets its contract. The loop has run the first i rows.
-use mathlib.Core.Path.{_≡_, ap, _∙_}
+use mathlib.Core.Path.{ap, _∙_}
 use mathlib.Core.List.{List}
 use Prim.Native.Nat.{ℕ, _-_}
 use native.Mathlib.Omega.{arith}
@@ -43,7 +43,8 @@ loop-again c =
     let then = row .before .before in
     let at = then .before .before in
     let a = at .before .before .before .args in
-    ran-one (a .n) (a .m) (rowOf (phaseAt (a .n) (a .m) (a .k))) _ _ (at .loop .sheet) _ (at .loop .i) (at .loop .inv) (then .if1 .taken) (row .run-row .ensures)
+    ran-one (a .n) (a .m) (rowOf (phaseAt (a .n) (a .m) (a .k))) _ _ (at .loop .sheet) _ (at .loop .i) (at .loop .inv) (then .if1 .taken)
+    (row .run-row .ensures)
 
 same-length : tie.Need-same-length Inv-loop μ-loop
 same-length c =

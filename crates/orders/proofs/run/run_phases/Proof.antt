@@ -1,5 +1,5 @@
 -- `run_phases` meets its contract. The loop has run the first k phases.
-use mathlib.Core.Path.{_≡_, sym, ap, _∙_}
+use mathlib.Core.Path.{sym, ap, _∙_}
 use mathlib.Core.List.{List}
 use Prim.Native.Nat.{ℕ, _-_}
 use native.Mathlib.Omega.{arith}
@@ -35,7 +35,8 @@ loop-again c =
     let turn = phase .before .before in
     let at = turn .before in
     let a = at .before .before .args in
-    ran-one (a .n) (a .m) (λ u. allRows (phaseAt (a .n) (a .m) u)) _ _ (at .loop .sheet) _ (at .loop .k) (at .loop .inv) (turn .loop-test .taken) (phase .run-phase .ensures)
+    ran-one (a .n) (a .m) (λ u. allRows (phaseAt (a .n) (a .m) u)) _ _ (at .loop .sheet) _ (at .loop .k) (at .loop .inv) (turn .loop-test .taken)
+    (phase .run-phase .ensures)
 
 same-length : tie.Need-same-length Inv-loop μ-loop
 same-length c =

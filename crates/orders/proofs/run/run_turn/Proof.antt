@@ -1,5 +1,5 @@
 -- `run_turn` meets its contract. The loop has run the first r orders of the block.
-use mathlib.Core.Path.{_≡_, sym, subst}
+use mathlib.Core.Path.{sym, subst}
 use Prim.Native.Nat.{_-_}
 use native.Mathlib.Omega.{arith}
 use borrow.Author.Needs.{needs}
@@ -17,7 +17,8 @@ Inv-loop n m starts columns k i q j turn sheet₀ r₀ sheet r = Done n m (partA
 abbrev μ-loop : tie.MeasureT-loop
 μ-loop n m starts columns k i q j turn sheet₀ r₀ sheet r = turn - r
 
-place : (c : tie.In-loop Inv-loop μ-loop) → let a = c .before .before .before .args in InPhase (phaseAt (a .n) (a .m) (a .k)) (a .i) (a .q) (a .j) (c .before .loop .r)
+place : (c : tie.In-loop Inv-loop μ-loop)
+    → let a = c .before .before .before .args in InPhase (phaseAt (a .n) (a .m) (a .k)) (a .i) (a .q) (a .j) (c .before .loop .r)
 place c =
     let p = c .before .before .before .pre .1 .1 .1 .1 in
     record { row = p .0 .row; part = p .0 .part; column = p .1 .0; place = omega (arith, p .1 .1, c .loop-test .taken) }
@@ -54,7 +55,8 @@ loop-again c =
     let loop = turn .before .loop in
     let a = turn .before .before .before .args in
     next-order (a .n) (a .m) (phaseAt (a .n) (a .m) (a .k)) (a .i) (a .q) (a .j) (loop .r) (place turn) _ (loop .sheet) _ (order .order-of .result)
-    (step .before .before .numbered-order .result) (loop .inv) (order .order-of .ensures) (step .before .before .numbered-order .ensures) (step .step .ensures)
+    (step .before .before .numbered-order .result) (loop .inv) (order .order-of .ensures) (step .before .before .numbered-order .ensures)
+    (step .step .ensures)
 
 same-length : tie.Need-same-length Inv-loop μ-loop
 same-length c = let a = c .before .before .before .args in done-same-length (a .n) (a .m) _ _ _ _ (c .before .loop .inv)

@@ -57,7 +57,11 @@ lowest-pool-returns-3 : (t : ℕ) → lowest-pool-lts.Need-returns-3 (
   lowest-pool-below t,
   lowest-pool.Post,
 ) (lowest-pool-at t) lowest-pool.Post
-lowest-pool-returns-3 t c = (ap (λ (k : ℕ). k + 1) (c .lowest-pool .ensures .0) ∙ lowest-even _ _ (c .before .before .if1 .left) (c .before .if2 .left), omega (arith, c .lowest-pool .ensures .1, c .before .before .if1 .left))
+lowest-pool-returns-3 t c = (
+  ap (λ (k : ℕ). k + 1) (c .lowest-pool .ensures .0) ∙ lowest-even _ _ (c .before .before .if1 .left) (c .before .if2 .left),
+  omega
+      (arith, c .lowest-pool .ensures .1, c .before .before .if1 .left),
+)
 
 pub +lowest-pool-spec : {M : Type 1} → statement M
 +lowest-pool-spec = close μ-lowest-pool λ t. lowest-pool-lts.spec (

@@ -63,7 +63,11 @@ other-pools-returns-3 : (t : ℕ) → other-pools-lts.Need-returns-3 (
   other-pools-below t,
   other-pools.Post,
 ) (other-pools-at t) other-pools.Post
-other-pools-returns-3 t c = (ap (λ (k : ℕ). 2 * k) (c .other-pools .ensures .0) ∙ others-even _ _ (c .before .before .if1 .left) (c .before .if2 .left), omega (arith, c .other-pools .ensures .1))
+other-pools-returns-3 t c = (
+  ap (λ (k : ℕ). 2 * k) (c .other-pools .ensures .0) ∙ others-even _ _ (c .before .before .if1 .left) (c .before .if2 .left),
+  omega
+      (arith, c .other-pools .ensures .1),
+)
 
 pub +other-pools-spec : {M : Type 1} → statement M
 +other-pools-spec = close μ-other-pools λ t. other-pools-lts.spec (

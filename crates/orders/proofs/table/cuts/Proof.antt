@@ -1,11 +1,10 @@
 -- `cuts` meets its contract.
-use mathlib.Core.Path.{_≡_, refl, ap, _∙_}
-use Prim.Native.Nat.{ℕ, _+_, _*_, _-_, _<_}
+use mathlib.Core.Path.{refl, ap, _∙_}
 use native.Mathlib.Omega.{arith}
 use borrow.Author.Needs.{needs}
 use Rattle.plan.specs.Names.{Demand}
 use Rattle.plan.specs.Table.{cutPhase}
-use Rattle.orders.specs.Shaped.{sum-at, head-of, in-part, InPhase, cut-at, cut-pools}
+use Rattle.orders.specs.Shaped.{sum-at, head-of, cut-at, cut-pools}
 use Rattle.orders.proofs.table.cuts.Statement.{statement}
 use Rattle.orders.proofs.table.cuts.Tie as tie
 
@@ -17,7 +16,8 @@ subset-order-requires c κs = search needs
 
 returns : tie.Need-returns
 returns c = let a = c .before .before .before .args in
-    sum-at (cutPhase (a .n) (a .m)) (a .i) (a .q) 0 (a .j) (a .r) (a .m) Demand (c .before .before .if1 .taken) (c .before .before .before .pre .1) refl refl _ _ (c .subset-order .ensures) (ap Demand (c .before .lowest-pool .ensures .0))
+    sum-at (cutPhase (a .n) (a .m)) (a .i) (a .q) 0 (a .j) (a .r) (a .m) Demand (c .before .before .if1 .taken) (c .before .before .before .pre .1)
+    refl refl _ _ (c .subset-order .ensures) (ap Demand (c .before .lowest-pool .ensures .0))
 
 returns-2 : tie.Need-returns-2
 returns-2 c = let s = c .before .before in

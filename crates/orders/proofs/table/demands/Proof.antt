@@ -10,10 +10,15 @@ returns : tie.Need-returns
 returns c = let a = c .before .args in one-of (demandPhase (a .n) (a .m)) (a .i) (a .q) 0 (a .j) (a .r) (c .if1 .taken) (c .before .pre) refl
 
 demand-turn-requires : tie.Need-demand-turn-requires
-demand-turn-requires c κs = let a = c .before .args in in-part (demandPhase (a .n) (a .m)) (a .i) (a .q) 1 (a .j) (a .r) (omega (arith, c .if1 .left, c .before .pre .part)) (c .before .pre) .1
+demand-turn-requires c κs =
+    let a = c .before .args in
+    in-part (demandPhase (a .n) (a .m)) (a .i) (a .q) 1 (a .j) (a .r) (omega (arith, c .if1 .left, c .before .pre .part)) (c .before .pre) .1
 
 returns-2 : tie.Need-returns-2
-returns-2 c = let a = c .before .before .args in c .demand-turn .ensures ∙ of-part (demandPhase (a .n) (a .m)) (a .i) (a .q) 1 (a .j) (a .r) (omega (arith, c .before .if1 .left, c .before .before .pre .part))
+returns-2 c =
+    let a = c .before .before .args in
+    c .demand-turn .ensures ∙ of-part (demandPhase (a .n) (a .m)) (a .i) (a .q) 1 (a .j) (a .r)
+    (omega (arith, c .before .if1 .left, c .before .before .pre .part))
 
 pub demands-spec : {M : Type 1} → statement M
 demands-spec =

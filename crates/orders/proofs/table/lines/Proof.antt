@@ -41,7 +41,8 @@ returns-4 : tie.Need-returns-4
 unfolding named
 returns-4 c = let s = c .before .before in
     let a = s .args in
-    c .take-turn .ensures ∙ one-of (linePhase (a .n) (a .m)) (a .i) (a .q) 3 (a .j) (a .r) (omega (arith, past (a .q) 3 (c .before .match .rest), s .pre .part)) (s .pre) refl
+    c .take-turn .ensures ∙ one-of (linePhase (a .n) (a .m)) (a .i) (a .q) 3 (a .j) (a .r)
+    (omega (arith, past (a .q) 3 (c .before .match .rest), s .pre .part)) (s .pre) refl
 
 pub lines-spec : {M : Type 1} → statement M
 lines-spec =

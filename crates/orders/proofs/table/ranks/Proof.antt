@@ -21,19 +21,24 @@ subset-order-requires c κs = search needs
 
 returns : tie.Need-returns
 returns c = let a = c .before .before .before .args in
-    sum-at (here (a .n) (a .m) (a .t) (a .u)) (a .i) (a .q) 0 (a .j) (a .r) (a .m) (at (a .t) (a .i)) (c .before .before .if1 .taken) (c .before .before .before .pre .1) refl refl _ _ (c .subset-order .ensures) (ap (at (a .t) (a .i)) (c .before .lowest-pool .ensures .0))
+    sum-at (here (a .n) (a .m) (a .t) (a .u)) (a .i) (a .q) 0 (a .j) (a .r) (a .m) (at (a .t) (a .i)) (c .before .before .if1 .taken)
+    (c .before .before .before .pre .1) refl refl _ _ (c .subset-order .ensures) (ap (at (a .t) (a .i)) (c .before .lowest-pool .ensures .0))
 
 returns-2 : tie.Need-returns-2
-returns-2 c = let a = c .before .before .args in one-of (here (a .n) (a .m) (a .t) (a .u)) (a .i) (a .q) 1 (a .j) (a .r) (c .if2 .taken) (c .before .before .pre .1) refl
+returns-2 c =
+    let a = c .before .before .args in
+    one-of (here (a .n) (a .m) (a .t) (a .u)) (a .i) (a .q) 1 (a .j) (a .r) (c .if2 .taken) (c .before .before .pre .1) refl
 
 cost-turn-requires : tie.Need-cost-turn-requires
 cost-turn-requires c κs = let a = c .before .before .args in
-    let e = in-part (here (a .n) (a .m) (a .t) (a .u)) (a .i) (a .q) 2 (a .j) (a .r) (omega (arith, c .before .if1 .left, c .if2 .left, c .before .before .pre .1 .part)) (c .before .before .pre .1) in
+    let e = in-part (here (a .n) (a .m) (a .t) (a .u)) (a .i) (a .q) 2 (a .j) (a .r)
+    (omega (arith, c .before .if1 .left, c .if2 .left, c .before .before .pre .1 .part)) (c .before .before .pre .1) in
     (omega arith, (e .0, e .1))
 
 returns-3 : tie.Need-returns-3
 returns-3 c = let a = c .before .before .before .args in
-    c .cost-turn .ensures ∙ of-part (here (a .n) (a .m) (a .t) (a .u)) (a .i) (a .q) 2 (a .j) (a .r) (omega (arith, c .before .before .if1 .left, c .before .if2 .left, c .before .before .before .pre .1 .part))
+    c .cost-turn .ensures ∙ of-part (here (a .n) (a .m) (a .t) (a .u)) (a .i) (a .q) 2 (a .j) (a .r)
+    (omega (arith, c .before .before .if1 .left, c .before .if2 .left, c .before .before .before .pre .1 .part))
 
 pub ranks-spec : {M : Type 1} → statement M
 ranks-spec =

@@ -88,103 +88,120 @@ returns-10 : tie.Need-returns-10
 unfolding phaseAt table work
 returns-10 c =
     let a = c .before .before .before .before .args in
-    shaped (a .n) (a .m) (a .k) 9 _ (c .match .keys10) (record { small = omega arith; rows = omega arith; parts = omega arith; columns = omega arith })
+    shaped (a .n) (a .m) (a .k) 9 _ (c .match .keys10)
+    (record { small = omega arith; rows = omega arith; parts = omega arith; columns = omega arith })
 
 returns-11 : tie.Need-returns-11
 unfolding phaseAt table work
 returns-11 c =
     let a = c .before .before .before .before .args in
-    shaped (a .n) (a .m) (a .k) 10 _ (c .match .keys11) (record { small = omega arith; rows = omega arith; parts = omega arith; columns = omega arith })
+    shaped (a .n) (a .m) (a .k) 10 _ (c .match .keys11)
+    (record { small = omega arith; rows = omega arith; parts = omega arith; columns = omega arith })
 
 returns-12 : tie.Need-returns-12
 unfolding phaseAt table work
 returns-12 c =
     let a = c .before .before .before .before .args in
-    shaped (a .n) (a .m) (a .k) 11 _ (c .match .keys12) (record { small = omega arith; rows = omega arith; parts = omega arith; columns = omega arith })
+    shaped (a .n) (a .m) (a .k) 11 _ (c .match .keys12)
+    (record { small = omega arith; rows = omega arith; parts = omega arith; columns = omega arith })
 
 returns-13 : tie.Need-returns-13
 unfolding phaseAt table work
 returns-13 c =
     let a = c .before .before .before .before .args in
-    shaped (a .n) (a .m) (a .k) 12 _ (c .match .keys13) (record { small = omega arith; rows = omega arith; parts = omega arith; columns = omega (arith, sets (c .before .before .before)) })
+    shaped (a .n) (a .m) (a .k) 12 _ (c .match .keys13)
+    (record { small = omega arith; rows = omega arith; parts = omega arith; columns = omega (arith, sets (c .before .before .before)) })
 
 returns-14 : tie.Need-returns-14
 unfolding phaseAt table work
 returns-14 c =
     let a = c .before .before .before .before .args in
-    shaped (a .n) (a .m) (a .k) 13 _ (c .match .keys14) (record { small = omega arith; rows = omega arith; parts = omega arith; columns = omega arith })
+    shaped (a .n) (a .m) (a .k) 13 _ (c .match .keys14)
+    (record { small = omega arith; rows = omega arith; parts = omega arith; columns = omega arith })
 
 returns-15 : tie.Need-returns-15
 unfolding phaseAt table work
 returns-15 c =
     let a = c .before .before .before .before .args in
-    shaped (a .n) (a .m) (a .k) 14 _ (c .match .keys15) (record { small = omega arith; rows = omega arith; parts = omega arith; columns = omega (arith, sets (c .before .before .before)) })
+    shaped (a .n) (a .m) (a .k) 14 _ (c .match .keys15)
+    (record { small = omega arith; rows = omega arith; parts = omega arith; columns = omega (arith, sets (c .before .before .before)) })
 
 returns-16 : tie.Need-returns-16
 unfolding phaseAt table work
 returns-16 c =
     let a = c .before .before .before .before .args in
-    shaped (a .n) (a .m) (a .k) 15 _ (c .match .keys16) (record { small = omega arith; rows = omega arith; parts = omega arith; columns = omega arith })
+    shaped (a .n) (a .m) (a .k) 15 _ (c .match .keys16)
+    (record { small = omega arith; rows = omega arith; parts = omega arith; columns = omega arith })
 
 returns-17 : tie.Need-returns-17
 unfolding phaseAt table work
 returns-17 c =
     let a = c .before .before .before .before .args in
-    shaped (a .n) (a .m) (a .k) 16 _ (c .match .keys17) (record { small = omega arith; rows = omega arith; parts = omega arith; columns = omega (arith, sets (c .before .before .before)) })
+    shaped (a .n) (a .m) (a .k) 16 _ (c .match .keys17)
+    (record { small = omega arith; rows = omega arith; parts = omega arith; columns = omega (arith, sets (c .before .before .before)) })
 
 returns-18 : tie.Need-returns-18
 unfolding phaseAt table work
 returns-18 c =
     let a = c .before .before .before .before .args in
-    shaped (a .n) (a .m) (a .k) 17 _ (c .match .keys18) (record { small = omega arith; rows = omega arith; parts = omega arith; columns = omega arith })
+    shaped (a .n) (a .m) (a .k) 17 _ (c .match .keys18)
+    (record { small = omega arith; rows = omega arith; parts = omega arith; columns = omega arith })
 
 returns-19 : tie.Need-returns-19
 unfolding phaseAt table work
 returns-19 c =
     let a = c .before .before .before .before .args in
-    shaped (a .n) (a .m) (a .k) 18 _ (c .match .keys19) (record { small = omega arith; rows = omega arith; parts = omega arith; columns = omega arith })
+    shaped (a .n) (a .m) (a .k) 18 _ (c .match .keys19)
+    (record { small = omega arith; rows = omega arith; parts = omega arith; columns = omega arith })
 
 returns-20 : tie.Need-returns-20
 unfolding phaseAt table work
 returns-20 c =
     let a = c .before .before .before .before .args in
-    shaped (a .n) (a .m) (a .k) 19 _ (c .match .keys20) (record { small = omega arith; rows = omega arith; parts = omega arith; columns = omega arith })
+    shaped (a .n) (a .m) (a .k) 19 _ (c .match .keys20)
+    (record { small = omega arith; rows = omega arith; parts = omega arith; columns = omega arith })
 
 returns-21 : tie.Need-returns-21
 unfolding phaseAt table work
 returns-21 c =
     let a = c .before .before .before .before .args in
-    shaped (a .n) (a .m) (a .k) 20 _ (c .match .keys21) (record { small = omega arith; rows = omega arith; parts = omega arith; columns = omega (arith, sets (c .before .before .before)) })
+    shaped (a .n) (a .m) (a .k) 20 _ (c .match .keys21)
+    (record { small = omega arith; rows = omega arith; parts = omega arith; columns = omega (arith, sets (c .before .before .before)) })
 
 returns-22 : tie.Need-returns-22
 unfolding phaseAt table work
 returns-22 c =
     let a = c .before .before .before .before .args in
-    shaped (a .n) (a .m) (a .k) 21 _ (c .match .keys22) (record { small = omega arith; rows = omega arith; parts = omega arith; columns = omega (arith, sets (c .before .before .before)) })
+    shaped (a .n) (a .m) (a .k) 21 _ (c .match .keys22)
+    (record { small = omega arith; rows = omega arith; parts = omega arith; columns = omega (arith, sets (c .before .before .before)) })
 
 returns-23 : tie.Need-returns-23
 unfolding phaseAt table work
 returns-23 c =
     let a = c .before .before .before .before .args in
-    shaped (a .n) (a .m) (a .k) 22 _ (c .match .keys23) (record { small = omega arith; rows = omega arith; parts = omega arith; columns = omega arith })
+    shaped (a .n) (a .m) (a .k) 22 _ (c .match .keys23)
+    (record { small = omega arith; rows = omega arith; parts = omega arith; columns = omega arith })
 
 returns-24 : tie.Need-returns-24
 unfolding phaseAt table work
 returns-24 c =
     let a = c .before .before .before .before .args in
-    shaped (a .n) (a .m) (a .k) 23 _ (c .match .keys24) (record { small = omega arith; rows = omega arith; parts = omega arith; columns = omega arith })
+    shaped (a .n) (a .m) (a .k) 23 _ (c .match .keys24)
+    (record { small = omega arith; rows = omega arith; parts = omega arith; columns = omega arith })
 
 returns-25 : tie.Need-returns-25
 unfolding phaseAt table work
 returns-25 c =
     let a = c .before .before .before .before .args in
-    shaped (a .n) (a .m) (a .k) 24 _ (c .match .keys25) (record { small = omega arith; rows = omega arith; parts = omega arith; columns = omega arith })
+    shaped (a .n) (a .m) (a .k) 24 _ (c .match .keys25)
+    (record { small = omega arith; rows = omega arith; parts = omega arith; columns = omega arith })
 
 returns-26 : tie.Need-returns-26
 unfolding phaseAt table work
 returns-26 c =
     let a = c .before .before .before .before .args in
-    shaped (a .n) (a .m) (a .k) 25 _ (omega (arith, past (c .before .before .before .before .args .k) 25 (c .match .rest))) (record { small = omega arith; rows = omega arith; parts = omega arith; columns = omega arith })
+    shaped (a .n) (a .m) (a .k) 25 _ (omega (arith, past (c .before .before .before .before .args .k) 25 (c .match .rest)))
+    (record { small = omega arith; rows = omega arith; parts = omega arith; columns = omega arith })
 
 pub shape-of-spec : {M : Type 1} → statement M
 shape-of-spec =

@@ -1,10 +1,8 @@
 -- `slacks` meets its contract.
-use mathlib.Core.Path.{refl, ap, _∙_}
-use Prim.Native.Nat.{ℕ}
+use mathlib.Core.Path.{refl, ap}
 use native.Mathlib.Omega.{arith}
 use borrow.Author.Needs.{needs}
 use Rattle.plan.specs.Names.{Placement}
-use Rattle.orders.specs.Walk.{subset-lowest}
 use Rattle.plan.specs.Table.{slackPhase}
 use Rattle.orders.specs.Shaped.{sum-at, one-of}
 use Rattle.orders.proofs.table.slacks.Statement.{statement}
@@ -18,7 +16,8 @@ subset-order-requires c κs = search needs
 
 returns : tie.Need-returns
 returns c = let a = c .before .before .before .args in
-    sum-at (slackPhase (a .n) (a .m)) (a .i) (a .q) 0 (a .j) (a .r) (a .m) Placement (c .before .before .if1 .taken) (c .before .before .before .pre .1) refl refl _ _ (c .subset-order .ensures) (ap Placement (c .before .lowest-pool .ensures .0))
+    sum-at (slackPhase (a .n) (a .m)) (a .i) (a .q) 0 (a .j) (a .r) (a .m) Placement (c .before .before .if1 .taken)
+    (c .before .before .before .pre .1) refl refl _ _ (c .subset-order .ensures) (ap Placement (c .before .lowest-pool .ensures .0))
 
 returns-2 : tie.Need-returns-2
 returns-2 c = let a = c .before .args in

@@ -9,19 +9,19 @@ use Rattle.laws.specs.Sizes.{Counts, counted}
 use Rattle.plan.specs.Phased.{rowSize, phaseSize, phaseIn}
 use Rattle.plan.specs.Table.{table, phaseAt, phaseCount, table-length}
 use Rattle.orders.specs.Shaped.{row-is}
-use Rattle.orders.specs.Steps.{Gone, gone-none, gone-one, gone-all, row-positive, row-within, place-within, row-has, IsSize}
+use Rattle.orders.specs.Steps.{PhasesPassed, phases-none, phases-one, phases-all, row-positive, row-within, place-within, row-has, IsSize}
 use Rattle.orders.specs.Entry.{entry-found, entry-none}
 use Rattle.orders.proofs.walk.order_in.Statement.{statement}
 use Rattle.orders.proofs.walk.order_in.Tie as tie
 
 abbrev Inv-loop : tie.InvT-loop
-Inv-loop n m starts columns sizes at x₀ k₀ x k = Gone (table n m) at x k
+Inv-loop n m starts columns sizes at x₀ k₀ x k = PhasesPassed (table n m) at x k
 
 abbrev μ-loop : tie.MeasureT-loop
 μ-loop n m starts columns sizes at x₀ k₀ x k = phaseCount - k
 
 loop-holds : tie.Need-loop-holds Inv-loop μ-loop
-loop-holds c = gone-none _ _
+loop-holds c = phases-none _ _
 
 mul-size : tie.Need-mul-size Inv-loop μ-loop
 mul-size c = search needs
@@ -37,7 +37,8 @@ limits c = counted _ _ (c .before .pre .0)
 phase-left : (c : tie.At-loop Inv-loop μ-loop) → c .loop .k < phaseCount → c .loop .k < length (table (c .before .args .n) (c .before .args .m))
 phase-left c l = omega (arith, table-length (c .before .args .n) (c .before .args .m))
 
-sized : (c : tie.At-loop Inv-loop μ-loop) → c .loop .k < phaseCount → IsSize (c .before .args .n) (c .before .args .m) (c .loop .k) (getD (now (c .before .args .sizes)) (c .loop .k) 0)
+sized : (c : tie.At-loop Inv-loop μ-loop) → c .loop .k < phaseCount
+    → IsSize (c .before .args .n) (c .before .args .m) (c .loop .k) (getD (now (c .before .args .sizes)) (c .loop .k) 0)
 sized c l = c .before .pre .1 .1 (c .loop .k) l
 
 in-phase : (c : tie.Then1 Inv-loop μ-loop) → let at = c .before .before .before in
@@ -60,7 +61,8 @@ some-row : (c : tie.After-row-size Inv-loop μ-loop) → 0 < c .row-size .result
 some-row c =
     let at = c .before .before .before .before .before in
     let a = at .before .args in
-    row-positive (table (a .n) (a .m)) (a .at) (at .loop .x) (at .loop .k) (at .loop .inv) (phase-left at (omega arith)) _ (row c) (in-phase (c .before .before))
+    row-positive (table (a .n) (a .m)) (a .at) (at .loop .x) (at .loop .k) (at .loop .inv) (phase-left at (omega arith)) _ (row c)
+    (in-phase (c .before .before))
 
 div-in-row : tie.Need-div-in-row Inv-loop μ-loop
 div-in-row c = some-row c
@@ -88,7 +90,8 @@ returns c =
     let r = c .before .before in
     let at = r .before .before .before .before .before in
     let a = at .before .args in
-    let has = row-has (table (a .n) (a .m)) (a .at) (at .loop .x) (at .loop .k) (at .loop .inv) (phase-left at (omega arith)) _ (row r) (in-phase (r .before .before)) _ (c .before .in-row .ensures .0) in
+    let has = row-has (table (a .n) (a .m)) (a .at) (at .loop .x) (at .loop .k) (at .loop .inv) (phase-left at (omega arith)) _ (row r)
+    (in-phase (r .before .before)) _ (c .before .in-row .ensures .0) in
     entry-found (a .n) (a .m) (a .at) (at .before .pre .0) (c .before .in-row .result) (c .numbered-order .result) has (c .numbered-order .ensures)
 
 add-k : tie.Need-add-k Inv-loop μ-loop
@@ -102,13 +105,15 @@ unfolding phaseAt
 loop-again c =
     let at = c .before .before .before in
     let a = at .before .args in
-    gone-one (table (a .n) (a .m)) (a .at) (at .loop .x) (at .loop .k) (at .loop .inv) (phase-left at (omega arith)) _ (sized at (omega arith) .is) (c .if1 .left)
+    phases-one (table (a .n) (a .m)) (a .at) (at .loop .x) (at .loop .k) (at .loop .inv) (phase-left at (omega arith)) _ (sized at (omega arith) .is)
+    (c .if1 .left)
 
 returns-2 : tie.Need-returns-2 Inv-loop μ-loop
 returns-2 c =
     let at = c .before in
     let a = at .before .args in
-    entry-none (a .n) (a .m) (a .at) (at .before .pre .0) (gone-all (table (a .n) (a .m)) (a .at) (at .loop .x) (at .loop .k) (at .loop .inv) (omega (arith, table-length (a .n) (a .m))))
+    entry-none (a .n) (a .m) (a .at) (at .before .pre .0) (phases-all (table (a .n) (a .m)) (a .at) (at .loop .x) (at .loop .k) (at .loop .inv)
+    (omega (arith, table-length (a .n) (a .m))))
 
 pub order-in-spec : {M : Type 1} → statement M
 order-in-spec =

@@ -1,6 +1,5 @@
 -- `phase_size` meets its contract: the rows by the numbers of the phase.
 use mathlib.Core.Path.{_∙_}
-use native.Mathlib.Omega.{arith}
 use borrow.Author.Needs.{needs}
 use Rattle.orders.specs.Shaped.{row-is}
 use Rattle.orders.specs.Steps.{size-is}

@@ -1,7 +1,7 @@
 -- `write_from` meets its contract. The loop keeps `Filled`: the orders so far, all that fit of them, are written in front of what the slice held.
 -- The measure is how many orders are left.
 use mathlib.Core.Path.{_≡_, sym, ap, subst, _∙_}
-use Prim.Native.Nat.{ℕ, _+_, _-_, _≤_, _<_}
+use Prim.Native.Nat.{ℕ, _+_, _-_, _≤_}
 use lib.ListN.{length}
 use native.Mathlib.Omega.{arith}
 use borrow.Author.Needs.{needs}
@@ -12,7 +12,7 @@ use Rattle.plan.specs.Asking.{total-accepted}
 use Rattle.plan.specs.Phased.{Has}
 use Rattle.plan.specs.Plan.{plan}
 use Rattle.plan.specs.List.{total-limit}
-use Rattle.orders.specs.Entry.{order-has, nothing-left}
+use Rattle.orders.specs.Entry.{order-has, none-left}
 use Rattle.orders.proofs.Filling.{Filled, begins, goes-on, at-end, no-room, ends, had-room}
 use Rattle.orders.proofs.write.write_from.Statement.{statement}
 use Rattle.orders.proofs.write.write_from.Tie as tie
@@ -55,7 +55,8 @@ room : (c : tie.Else1 Inv-loop μ-loop) → let loop = c .before .before .before
     loop .bytes + length (orderBytes (c .before .before .before .before .before .before .order .given .0 .0)) ≤ length (loop .out)
 room c = had-room _ _ _ _ (c .before .before .before .write-order .ensures .0) (c .if1 .left)
 
-size : (c : tie.Else1 Inv-loop μ-loop) → c .before .before .before .write-order .result ≡ length (orderBytes (c .before .before .before .before .before .before .order .given .0 .0))
+size : (c : tie.Else1 Inv-loop μ-loop)
+    → c .before .before .before .write-order .result ≡ length (orderBytes (c .before .before .before .before .before .before .order .given .0 .0))
 size c = c .before .before .before .write-order .ensures .0 ∙ size-with-room _ _ _ (room c)
 
 same-length : tie.Need-same-length Inv-loop μ-loop
@@ -66,15 +67,17 @@ returns c =
     let start = c .before .before .before .before .before in
     let a = start .args in
     let loop = c .before .before .before .loop in
-    let ended = nothing-left (a .n) (a .m) (loop .next) (start .pre .0) (sym (c .enum-told .given .1) ∙ c .before .before .order-in .ensures) in
+    let ended = none-left (a .n) (a .m) (loop .next) (start .pre .0) (sym (c .enum-told .given .1) ∙ c .before .before .order-in .ensures) in
     ends plan (a .n) (a .m) (a .at) (a .out .now) (loop .out) (loop .next) (loop .bytes) (loop .orders) (loop .inv)
-    (at-end plan (a .n) (a .m) (a .at) (a .out .now) (loop .out) (loop .next) (loop .bytes) (loop .orders) (loop .inv) (omega (arith, loop .inv .stands)))
+    (at-end plan (a .n) (a .m) (a .at) (a .out .now) (loop .out) (loop .next) (loop .bytes) (loop .orders) (loop .inv)
+    (omega (arith, loop .inv .stands)))
 
 write-order-requires : tie.Need-write-order-requires Inv-loop μ-loop
 write-order-requires c κs = search needs
 
 same-length-2 : tie.Need-same-length-2 Inv-loop μ-loop
-same-length-2 c = c .before .before .before .write-order .kept .0 ∙ c .before .before .before .before .before .before .before .before .before .loop .inv .long
+same-length-2 c =
+    c .before .before .before .write-order .kept .0 ∙ c .before .before .before .before .before .before .before .before .before .loop .inv .long
 
 returns-2 : tie.Need-returns-2 Inv-loop μ-loop
 returns-2 c =
@@ -86,7 +89,8 @@ returns-2 c =
     let none-fits = none-written (loop .out) (loop .bytes) o (sym (written .ensures .0) ∙ c .if1 .taken) in
     let end =
     ends plan (a .n) (a .m) (a .at) (a .out .now) (loop .out) (loop .next) (loop .bytes) (loop .orders) (loop .inv)
-    (no-room plan (a .n) (a .m) (a .at) (a .out .now) (loop .out) (loop .next) (loop .bytes) (loop .orders) (loop .inv) o (counted-there found) none-fits) in
+    (no-room plan (a .n) (a .m) (a .at) (a .out .now) (loop .out) (loop .next) (loop .bytes) (loop .orders) (loop .inv) o
+    (counted-there found) none-fits) in
     (end .0, written .ensures .1 ∙ bytes-without-room (loop .out) (loop .bytes) o none-fits ∙ end .1)
 
 add-bytes : tie.Need-add-bytes Inv-loop μ-loop
