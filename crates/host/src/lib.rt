@@ -14,7 +14,6 @@ use definitions::is_accepted;
 use definitions::number;
 use judging::judge_counts;
 use position::Plan;
-use writer::judge_writing;
 use writer::write_plan;
 
 // How many bytes one number takes, and the writer's three.
@@ -57,17 +56,6 @@ fn judge_slice(n: usize, m: usize, length: usize, stated: usize) -> Verdict
     Verdict::Accepted
 }
 
-// All that a call for the plan's bytes can be refused for: 1, 2, 3, 13, 14.
-fn judge_bytes(n: usize, m: usize, at: usize, room: usize, counts: usize) -> Verdict
-    ensures { λ r. ⌜ refusalOf r ≡ bytesRefusal plan n m at room counts ⌝ }
-{
-    let by_slice = judge_slice(n, m, counts, COUNTS_BYTES);
-    if !is_accepted(by_slice) {
-        return by_slice;
-    }
-    judge_writing(n, m, at, room)
-}
-
 // The plan's total, in 8 bytes.
 #[no_mangle]
 pub extern "C" fn plan_total(n: u64, m: u64, out: &mut [u8]) -> u32
@@ -90,17 +78,15 @@ pub extern "C" fn plan_bytes(n: u64, m: u64, position: u64, bytes: &mut [u8], ou
     ensures bytes { λ _. ⌜ now (bytes .exit) ≡ bytesSlice plan n m position (now (bytes .entry)) (length (now (out .entry))) ⌝ }
     ensures counts { λ _. ⌜ now (out .exit) ≡ countsSlice plan n m position (length (now (bytes .entry))) (now (out .entry)) ⌝ }
 {
-    let verdict = judge_bytes(
-        n as usize,
-        m as usize,
-        position as usize,
-        bytes.len(),
-        out.len(),
-    );
+    let by_slice = judge_slice(n as usize, m as usize, out.len(), COUNTS_BYTES);
+    if !is_accepted(by_slice) {
+        return number(by_slice);
+    }
+    let written = write_plan(n as usize, m as usize, position as usize, bytes);
+    let verdict = written.verdict;
     if !is_accepted(verdict) {
         return number(verdict);
     }
-    let written = write_plan(n as usize, m as usize, position as usize, bytes);
     put_counts(out, written.bytes, written.orders, written.next);
     0
 }

@@ -22,7 +22,7 @@ pub struct Written {
 }
 
 // Counts, position, and the room for one order at least: 14.
-pub fn judge_writing(n: usize, m: usize, at: usize, room: usize) -> Verdict
+fn judge_writing(n: usize, m: usize, at: usize, room: usize) -> Verdict
     ensures { λ r. ⌜ refusalOf r ≡ writeRefusal plan n m at room ⌝ }
 {
     let by_position = Position { n, m, at }.judge();
