@@ -1,113 +1,17 @@
 // What follows from n and m alone, before any order is made: how many sets of pools there are, and where each family of cells stands on the sheet.
 ghost use mathlib.Core.Path.{_≡_};
-ghost use Prim.Native.Nat.{_*_, _^_, _≤_};
+ghost use Prim.Native.Nat.{_^_, _≤_};
 ghost use Rattle.definitions.specs.Limits.{poolLimit};
 ghost use Rattle.definitions.specs.Answers.{none};
 ghost use Rattle.definitions.specs.Calls.{countsRefusal};
-ghost use Rattle.plan.specs.Names.{rowTable, columnTable};
+ghost use Rattle.plan.specs.Names.{placeOf, columnsOf, rowTable, columnTable};
 ghost use Rattle.layout.specs.Sets.{subsetCount};
 ghost use Rattle.layout.specs.Tables.{AreStarts, StartsOrNone};
 use definitions::Limits;
 use definitions::is_accepted;
 use judging::judge_counts;
-
-// The families of cells, in their order on the sheet.
-pub struct Family {}
-
-impl Family {
-    // Each bid's pool, price and quantity.
-    pub const BIDS: usize = 0;
-
-    // The capacity of each line, by its two ends.
-    pub const CAPACITIES: usize = 1;
-
-    // Each bid's accepted amount.
-    pub const AMOUNTS: usize = 2;
-
-    // The flow of each line, by the line's number.
-    pub const FLOWS: usize = 3;
-
-    // Each pool's price and presence.
-    pub const PRICES: usize = 4;
-
-    // What one block keeps for itself.
-    pub const TEMPORARIES: usize = 5;
-
-    // The number 0, in one cell that no order of the work writes.
-    pub const ZERO_CELLS: usize = 6;
-
-    // The number 1.
-    pub const UNITS: usize = 7;
-
-    // What makes a price positive.
-    pub const SHIFTS: usize = 8;
-
-    // Each pool's number in a book, from 1.
-    pub const POOL_NUMBERS: usize = 9;
-
-    // Each bid's side: 1 for a purchase, 0 for a sale.
-    pub const SIDES: usize = 10;
-
-    // Each bid's quantity without its sign.
-    pub const SIZES: usize = 11;
-
-    // Each bid's price made positive, so that 0 can stand for none.
-    pub const POSITIVE_PRICES: usize = 12;
-
-    // Each positive price doubled.
-    pub const DOUBLES: usize = 13;
-
-    // Each doubled price and the side.
-    pub const KEYS: usize = 14;
-
-    // Each doubled price and 1.
-    pub const NEXTS: usize = 15;
-
-    // Whether a bid is in a pool, as 1 or 0.
-    pub const MEMBERSHIPS: usize = 16;
-
-    // A bid's size in a pool, 0 if it is in another.
-    pub const POOL_SIZES: usize = 17;
-
-    // The sizes of each pool's purchases.
-    pub const DEMANDS: usize = 18;
-
-    // A sum over each set of pools, one sum after another.
-    pub const SUBSETS: usize = 19;
-
-    // The most that can be used in each set of pools.
-    pub const CUTS: usize = 20;
-
-    // The sizes in a pool of the bids before a bid.
-    pub const SIZES_BEFORE: usize = 21;
-
-    // The most that can be used of the bids before a bid.
-    pub const RANKS_BEFORE: usize = 22;
-
-    // The sizes in a pool of the bids before a bid, and its own.
-    pub const SIZES_WITH: usize = 23;
-
-    // The most that can be used of the bids before a bid and of itself.
-    pub const RANKS_WITH: usize = 24;
-
-    // Each bid's used amount.
-    pub const USES: usize = 25;
-
-    // What is used in each pool.
-    pub const PLACEMENTS: usize = 26;
-
-    // What each set of pools could still take.
-    pub const SLACKS: usize = 27;
-
-    // The positive price of each sale accepted above 0, 0 for other bids.
-    pub const OFFERS: usize = 28;
-
-    // The highest offer in each pool.
-    pub const HIGHEST_OFFERS: usize = 29;
-
-    // How many families there are.
-    pub const COUNT: usize = 30;
-}
+use plan::Family;
+use plan::place_of;
 
 // 2 to the m: how many sets of pools there are; none where m is above its limit.
 pub fn subset_count(m: usize) -> usize
@@ -119,82 +23,93 @@ pub fn subset_count(m: usize) -> usize
     0
 }
 
-// How many columns each family has, in the families' order.
+// The columns of a family: they depend on m only.
+fn columns(m: usize, f: Family) -> usize
+    ensures { λ r. ⌜ r ≡ columnsOf 0 m f ⌝ }
+{
+    place_of(0, m, 0, 0, f).2
+}
+
+// How many columns each family has, by its number.
 pub fn columns_of(m: usize) -> [usize; Family::COUNT]
     ensures { λ r. ⌜ r ≡ columnTable m ⌝ }
 {
     [
-        Limits::BID_NUMBERS, // bids
-        m, // capacities
-        1, // amounts
-        1, // flows
-        2, // prices
-        1, // temporaries
-        1, // zero cells
-        1, // units
-        1, // shifts
-        1, // pool numbers
-        1, // sides
-        1, // sizes
-        1, // positive prices
-        1, // doubles
-        1, // keys
-        1, // nexts
-        m, // memberships
-        m, // pool sizes
-        1, // demands
-        1, // subsets
-        1, // cuts
-        m, // sizes before
-        1, // ranks before
-        m, // sizes with
-        1, // ranks with
-        1, // uses
-        1, // placements
-        1, // slacks
-        1, // offers
-        1, // highest offers
+        columns(m, Family::Bids),
+        columns(m, Family::Capacities),
+        columns(m, Family::Amounts),
+        columns(m, Family::Flows),
+        columns(m, Family::Prices),
+        columns(m, Family::Temporaries),
+        columns(m, Family::ZeroCells),
+        columns(m, Family::Units),
+        columns(m, Family::Shifts),
+        columns(m, Family::PoolNumbers),
+        columns(m, Family::Sides),
+        columns(m, Family::Sizes),
+        columns(m, Family::PositivePrices),
+        columns(m, Family::Doubles),
+        columns(m, Family::Keys),
+        columns(m, Family::Nexts),
+        columns(m, Family::Memberships),
+        columns(m, Family::PoolSizes),
+        columns(m, Family::Demands),
+        columns(m, Family::Subsets),
+        columns(m, Family::Cuts),
+        columns(m, Family::SizesBefore),
+        columns(m, Family::RanksBefore),
+        columns(m, Family::SizesWith),
+        columns(m, Family::RanksWith),
+        columns(m, Family::Uses),
+        columns(m, Family::Placements),
+        columns(m, Family::Slacks),
+        columns(m, Family::Offers),
+        columns(m, Family::HighestOffers),
     ]
 }
 
-// How many rows each family has.
-fn rows_of(n: usize, m: usize) -> [usize; Family::COUNT]
-    requires { ⌜ m ≤ poolLimit ⌝ }
-    ensures { λ r. ⌜ r ≡ rowTable n m (m * m) (2 ^ m) ⌝ }
+// The rows of a family, for so many lines and sets of pools.
+fn rows(n: usize, m: usize, lines: usize, sets: usize, f: Family) -> usize
+    ensures { λ r. ⌜ r ≡ placeOf n m lines sets f .1 ⌝ }
 {
-    let lines = m * m;
-    let sets = subset_count(m);
+    place_of(n, m, lines, sets, f).1
+}
+
+// How many rows each family has, by its number.
+fn rows_of(n: usize, m: usize, lines: usize, sets: usize) -> [usize; Family::COUNT]
+    ensures { λ r. ⌜ r ≡ rowTable n m lines sets ⌝ }
+{
     [
-        n, // bids
-        m, // capacities
-        n, // amounts
-        lines, // flows
-        m, // prices
-        3, // temporaries
-        1, // zero cells
-        1, // units
-        1, // shifts
-        m, // pool numbers
-        n, // sides
-        n, // sizes
-        n, // positive prices
-        n, // doubles
-        n, // keys
-        n, // nexts
-        n, // memberships
-        n, // pool sizes
-        m, // demands
-        sets, // subsets
-        sets, // cuts
-        n, // sizes before
-        n, // ranks before
-        n, // sizes with
-        n, // ranks with
-        n, // uses
-        m, // placements
-        sets, // slacks
-        n, // offers
-        m, // highest offers
+        rows(n, m, lines, sets, Family::Bids),
+        rows(n, m, lines, sets, Family::Capacities),
+        rows(n, m, lines, sets, Family::Amounts),
+        rows(n, m, lines, sets, Family::Flows),
+        rows(n, m, lines, sets, Family::Prices),
+        rows(n, m, lines, sets, Family::Temporaries),
+        rows(n, m, lines, sets, Family::ZeroCells),
+        rows(n, m, lines, sets, Family::Units),
+        rows(n, m, lines, sets, Family::Shifts),
+        rows(n, m, lines, sets, Family::PoolNumbers),
+        rows(n, m, lines, sets, Family::Sides),
+        rows(n, m, lines, sets, Family::Sizes),
+        rows(n, m, lines, sets, Family::PositivePrices),
+        rows(n, m, lines, sets, Family::Doubles),
+        rows(n, m, lines, sets, Family::Keys),
+        rows(n, m, lines, sets, Family::Nexts),
+        rows(n, m, lines, sets, Family::Memberships),
+        rows(n, m, lines, sets, Family::PoolSizes),
+        rows(n, m, lines, sets, Family::Demands),
+        rows(n, m, lines, sets, Family::Subsets),
+        rows(n, m, lines, sets, Family::Cuts),
+        rows(n, m, lines, sets, Family::SizesBefore),
+        rows(n, m, lines, sets, Family::RanksBefore),
+        rows(n, m, lines, sets, Family::SizesWith),
+        rows(n, m, lines, sets, Family::RanksWith),
+        rows(n, m, lines, sets, Family::Uses),
+        rows(n, m, lines, sets, Family::Placements),
+        rows(n, m, lines, sets, Family::Slacks),
+        rows(n, m, lines, sets, Family::Offers),
+        rows(n, m, lines, sets, Family::HighestOffers),
     ]
 }
 
@@ -203,7 +118,9 @@ fn starts_within(n: usize, m: usize) -> [usize; Family::COUNT]
     requires { ⌜ countsRefusal n m ≡ none ⌝ }
     ensures { λ r. ⌜ AreStarts n m r ⌝ }
 {
-    let rows = rows_of(n, m);
+    let lines = m * m;
+    let sets = subset_count(m);
+    let rows = rows_of(n, m, lines, sets);
     let columns = columns_of(m);
     let mut starts = [0; Family::COUNT];
     let mut start = 0;

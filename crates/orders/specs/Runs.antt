@@ -17,8 +17,8 @@ use Rattle.laws.specs.Refusal.{unless-refused}
 use Rattle.laws.specs.Sizes.{counted}
 use Rattle.machine.specs.Step.{stepped, steppedAll, stepped-append}
 use Rattle.machine.specs.Run.{stepped-all-is, stepped-all-length}
-use Rattle.plan.specs.Orders.{OrderOn, constant, orderOf, renamed, Name}
-use Rattle.plan.specs.Names.{ZeroCell}
+use Rattle.plan.specs.Orders.{OrderOn, constant, orderOf, renamed}
+use Rattle.plan.specs.Names.{Name, ZeroCell}
 use Rattle.plan.specs.Loops.{loop}
 use Rattle.plan.specs.Phased.{flat, partAt}
 use Rattle.plan.specs.Table.{Phase, table}

@@ -8,8 +8,8 @@ use native.Mathlib.Omega.{arith}
 use lib.ListN.{length, getD}
 use Rattle.definitions.specs.Arithmetic.{sumTo}
 use Rattle.definitions.specs.Limits.{bidLimit, poolLimit, cellCount}
-use Rattle.plan.specs.Orders.{OrderOn, constant, Name}
-use Rattle.plan.specs.Names.{ZeroCell}
+use Rattle.plan.specs.Orders.{OrderOn, constant}
+use Rattle.plan.specs.Names.{Name, ZeroCell}
 use Rattle.plan.specs.Entries.{all-at}
 use Rattle.plan.specs.Loops.{loop}
 use Rattle.plan.specs.Running.{subsetBlock}

@@ -9,7 +9,8 @@ use native.Mathlib.Numerals.{add-one}
 use lib.ListN.{length, getD, set}
 use lib.Seq.{getD-set-same, getD-set-other}
 use Rattle.definitions.specs.Arithmetic.{sumTo}
-use Rattle.plan.specs.Orders.{OrderOn, Name}
+use Rattle.plan.specs.Orders.{OrderOn}
+use Rattle.plan.specs.Names.{Name}
 use Rattle.orders.specs.declared.table.Columns.{Columns}
 use Rattle.orders.specs.declared.table.Shape.{Shape}
 use Rattle.plan.specs.Phased.{partAt, partSize, rowSize, partStart, phaseSize, phaseStart, tableSize, phaseIn, rowOf, flat, flat-length, Has, in-row, in-rows, in-table}

@@ -13,11 +13,12 @@ use Rattle.definitions.specs.declared.Order.the-variants as unit
 use Rattle.orders.specs.declared.names.CellName.{CellName}
 use Rattle.orders.specs.declared.names.NamedOrder.{NamedOrder}
 use Rattle.orders.specs.declared.names.NamedOrder.the-variants as made
-use Rattle.plan.specs.Orders.{OrderOn, orderOf, renamed, constant, operate, sum, difference, Operation, adding, subtracting, multiplying, comparing, equating, Name, at}
+use Rattle.plan.specs.Orders.{OrderOn, orderOf, renamed, constant, operate, sum, difference, Operation, adding, subtracting, multiplying, comparing, equating}
 use Rattle.plan.specs.Subsets.{leaves, lowest, others}
 use Rattle.plan.specs.Running.{lowered, subsetOrder, subsetBlock}
 use Rattle.plan.specs.Blocks.{testAt, testOrder, cutTurn, restCell, restTurn, takenCell, takeTurn}
-use Rattle.plan.specs.Names.{ZeroCell, Temporary, Capacity, Cut, Slack, Subset, columnsOf}
+use Rattle.plan.specs.declared.Family.{Family}
+use Rattle.plan.specs.Names.{number, Name, at, ZeroCell, Temporary, Capacity, Cut, Slack, Subset, columnsOf}
 use Rattle.plan.specs.Plan.{from, cellOf}
 
 -- ---- orders over names, as the code makes them
@@ -100,7 +101,7 @@ named-next o l r h =
 -- ---- from names to cells
 
 -- the cell from the start of its family and its columns, each known by an equation
-pub cell-is : (n m t i j s w : ℕ) → s ≡ from n m t → w ≡ columnsOf n m t → s + (i * w + j) ≡ cellOf n m (at t i j)
+pub cell-is : (n m : ℕ) (t : Family) (i j s w : ℕ) → s ≡ from n m (number t) → w ≡ columnsOf n m t → s + (i * w + j) ≡ cellOf n m (at t i j)
 unfolding from
 cell-is n m t i j s w e f = rw (e, f)
 

@@ -10,25 +10,26 @@ use crate::names::Kind;
 use crate::names::NamedOrder;
 use crate::sets::is_leaving;
 use crate::sets::other_pools;
-use layout::Family;
+use definitions::Limits;
 use layout::subset_count;
+use plan::Family;
 
 // The size of bid i.
 pub fn size_order(i: usize, r: usize) -> NamedOrder
     requires { ⌜ r < 3 ⌝ }
     ensures { λ o. ⌜ namedOf o ≡ named (sizeBlock i) r ⌝ }
 {
-    let first = CellName(Family::TEMPORARIES, 0, 0);
-    let quantity = CellName(Family::BIDS, i, 2);
-    let second = CellName(Family::TEMPORARIES, 1, 0);
+    let first = CellName(Family::Temporaries, 0, 0);
+    let quantity = CellName(Family::Bids, i, Limits::QUANTITY_PLACE);
+    let second = CellName(Family::Temporaries, 1, 0);
     if r == 0 {
-        let side = CellName(Family::SIDES, i, 0);
+        let side = CellName(Family::Sides, i, 0);
         return NamedOrder::Operate(Kind::PRODUCT, first, quantity, side);
     }
     if r == 1 {
         return NamedOrder::Operate(Kind::DIFFERENCE, second, quantity, first);
     }
-    let size = CellName(Family::SIZES, i, 0);
+    let size = CellName(Family::Sizes, i, 0);
     NamedOrder::Operate(Kind::DIFFERENCE, size, first, second)
 }
 
@@ -37,13 +38,13 @@ pub fn demand_turn(p: usize, i: usize, r: usize) -> NamedOrder
     requires { ⌜ r < 2 ⌝ }
     ensures { λ o. ⌜ namedOf o ≡ named (demandTurn p i) r ⌝ }
 {
-    let first = CellName(Family::TEMPORARIES, 0, 0);
+    let first = CellName(Family::Temporaries, 0, 0);
     if r == 0 {
-        let side = CellName(Family::SIDES, i, 0);
-        let pool_size = CellName(Family::POOL_SIZES, i, p);
+        let side = CellName(Family::Sides, i, 0);
+        let pool_size = CellName(Family::PoolSizes, i, p);
         return NamedOrder::Operate(Kind::PRODUCT, first, side, pool_size);
     }
-    let demand = CellName(Family::DEMANDS, p, 0);
+    let demand = CellName(Family::Demands, p, 0);
     NamedOrder::Operate(Kind::SUM, demand, demand, first)
 }
 
@@ -52,13 +53,13 @@ pub fn gain_turn(i: usize, j: usize, p: usize, r: usize) -> NamedOrder
     requires { ⌜ r < 2 ⌝ }
     ensures { λ o. ⌜ namedOf o ≡ named (gainTurn i j p) r ⌝ }
 {
-    let second = CellName(Family::TEMPORARIES, 1, 0);
+    let second = CellName(Family::Temporaries, 1, 0);
     if r == 0 {
-        let first = CellName(Family::TEMPORARIES, 0, 0);
-        let pool_size = CellName(Family::POOL_SIZES, j, p);
+        let first = CellName(Family::Temporaries, 0, 0);
+        let pool_size = CellName(Family::PoolSizes, j, p);
         return NamedOrder::Operate(Kind::PRODUCT, second, first, pool_size);
     }
-    let size_before = CellName(Family::SIZES_BEFORE, i, p);
+    let size_before = CellName(Family::SizesBefore, i, p);
     NamedOrder::Operate(Kind::SUM, size_before, size_before, second)
 }
 
@@ -67,8 +68,8 @@ fn lowered_order(d: CellName, a: CellName, r: usize) -> NamedOrder
     requires { ⌜ r < 4 ⌝ }
     ensures { λ o. ⌜ namedOf o ≡ named (lowered (nameOf d) (nameOf a)) r ⌝ }
 {
-    let first = CellName(Family::TEMPORARIES, 0, 0);
-    let second = CellName(Family::TEMPORARIES, 1, 0);
+    let first = CellName(Family::Temporaries, 0, 0);
+    let second = CellName(Family::Temporaries, 1, 0);
     if r == 0 {
         return NamedOrder::Operate(Kind::LESS, first, a, d);
     }
@@ -86,8 +87,8 @@ fn raised_order(d: CellName, a: CellName, r: usize) -> NamedOrder
     requires { ⌜ r < 4 ⌝ }
     ensures { λ o. ⌜ namedOf o ≡ named (raised (nameOf d) (nameOf a)) r ⌝ }
 {
-    let first = CellName(Family::TEMPORARIES, 0, 0);
-    let second = CellName(Family::TEMPORARIES, 1, 0);
+    let first = CellName(Family::Temporaries, 0, 0);
+    let second = CellName(Family::Temporaries, 1, 0);
     if r == 0 {
         return NamedOrder::Operate(Kind::LESS, first, d, a);
     }
@@ -105,20 +106,20 @@ pub fn amount_order(i: usize, r: usize) -> NamedOrder
     requires { ⌜ r < 4 ⌝ }
     ensures { λ o. ⌜ namedOf o ≡ named (amountBlock i) r ⌝ }
 {
-    let first = CellName(Family::TEMPORARIES, 0, 0);
-    let used = CellName(Family::USES, i, 0);
+    let first = CellName(Family::Temporaries, 0, 0);
+    let used = CellName(Family::Uses, i, 0);
     if r == 0 {
-        let size = CellName(Family::SIZES, i, 0);
+        let size = CellName(Family::Sizes, i, 0);
         return NamedOrder::Operate(Kind::DIFFERENCE, first, size, used);
     }
     if r == 1 {
         return NamedOrder::Operate(Kind::DIFFERENCE, first, first, used);
     }
     if r == 2 {
-        let side = CellName(Family::SIDES, i, 0);
+        let side = CellName(Family::Sides, i, 0);
         return NamedOrder::Operate(Kind::PRODUCT, first, first, side);
     }
-    let amount = CellName(Family::AMOUNTS, i, 0);
+    let amount = CellName(Family::Amounts, i, 0);
     NamedOrder::Operate(Kind::SUM, amount, used, first)
 }
 
@@ -127,13 +128,13 @@ pub fn placement_turn(p: usize, i: usize, r: usize) -> NamedOrder
     requires { ⌜ r < 2 ⌝ }
     ensures { λ o. ⌜ namedOf o ≡ named (placementTurn p i) r ⌝ }
 {
-    let first = CellName(Family::TEMPORARIES, 0, 0);
+    let first = CellName(Family::Temporaries, 0, 0);
     if r == 0 {
-        let membership = CellName(Family::MEMBERSHIPS, i, p);
-        let used = CellName(Family::USES, i, 0);
+        let membership = CellName(Family::Memberships, i, p);
+        let used = CellName(Family::Uses, i, 0);
         return NamedOrder::Operate(Kind::PRODUCT, first, membership, used);
     }
-    let placement = CellName(Family::PLACEMENTS, p, 0);
+    let placement = CellName(Family::Placements, p, 0);
     NamedOrder::Operate(Kind::SUM, placement, placement, first)
 }
 
@@ -142,23 +143,23 @@ pub fn offer_order(i: usize, r: usize) -> NamedOrder
     requires { ⌜ r < 4 ⌝ }
     ensures { λ o. ⌜ namedOf o ≡ named (offerBlock i) r ⌝ }
 {
-    let first = CellName(Family::TEMPORARIES, 0, 0);
-    let second = CellName(Family::TEMPORARIES, 1, 0);
+    let first = CellName(Family::Temporaries, 0, 0);
+    let second = CellName(Family::Temporaries, 1, 0);
     if r == 0 {
-        let zero_cell = CellName(Family::ZERO_CELLS, 0, 0);
-        let amount = CellName(Family::AMOUNTS, i, 0);
+        let zero_cell = CellName(Family::ZeroCells, 0, 0);
+        let amount = CellName(Family::Amounts, i, 0);
         return NamedOrder::Operate(Kind::LESS, first, zero_cell, amount);
     }
     if r == 1 {
-        let one = CellName(Family::UNITS, 0, 0);
-        let side = CellName(Family::SIDES, i, 0);
+        let one = CellName(Family::Units, 0, 0);
+        let side = CellName(Family::Sides, i, 0);
         return NamedOrder::Operate(Kind::DIFFERENCE, second, one, side);
     }
     if r == 2 {
         return NamedOrder::Operate(Kind::PRODUCT, first, first, second);
     }
-    let offer = CellName(Family::OFFERS, i, 0);
-    let positive_price = CellName(Family::POSITIVE_PRICES, i, 0);
+    let offer = CellName(Family::Offers, i, 0);
+    let positive_price = CellName(Family::PositivePrices, i, 0);
     NamedOrder::Operate(Kind::PRODUCT, offer, first, positive_price)
 }
 
@@ -167,18 +168,18 @@ pub fn price_order(p: usize, r: usize) -> NamedOrder
     requires { ⌜ r < 3 ⌝ }
     ensures { λ o. ⌜ namedOf o ≡ named (priceBlock p) r ⌝ }
 {
-    let presence = CellName(Family::PRICES, p, 1);
-    let highest_offer = CellName(Family::HIGHEST_OFFERS, p, 0);
-    let first = CellName(Family::TEMPORARIES, 0, 0);
+    let presence = CellName(Family::Prices, p, 1);
+    let highest_offer = CellName(Family::HighestOffers, p, 0);
+    let first = CellName(Family::Temporaries, 0, 0);
     if r == 0 {
-        let zero_cell = CellName(Family::ZERO_CELLS, 0, 0);
+        let zero_cell = CellName(Family::ZeroCells, 0, 0);
         return NamedOrder::Operate(Kind::LESS, presence, zero_cell, highest_offer);
     }
     if r == 1 {
-        let shift = CellName(Family::SHIFTS, 0, 0);
+        let shift = CellName(Family::Shifts, 0, 0);
         return NamedOrder::Operate(Kind::DIFFERENCE, first, highest_offer, shift);
     }
-    let pool_price = CellName(Family::PRICES, p, 0);
+    let pool_price = CellName(Family::Prices, p, 0);
     NamedOrder::Operate(Kind::PRODUCT, pool_price, first, presence)
 }
 
@@ -186,11 +187,11 @@ pub fn price_order(p: usize, r: usize) -> NamedOrder
 pub fn subset_order(m: usize, s: usize, a: CellName) -> NamedOrder
     ensures { λ o. ⌜ namedOf o ≡ named (subsetBlock m (λ p. nameOf a) s) 0 ⌝ }
 {
-    let subset = CellName(Family::SUBSETS, s, 0);
+    let subset = CellName(Family::Subsets, s, 0);
     if s == 0 {
         return NamedOrder::Constant(subset, 0);
     }
-    let other = CellName(Family::SUBSETS, other_pools(m, s), 0);
+    let other = CellName(Family::Subsets, other_pools(m, s), 0);
     NamedOrder::Operate(Kind::SUM, subset, other, a)
 }
 
@@ -198,18 +199,18 @@ pub fn subset_order(m: usize, s: usize, a: CellName) -> NamedOrder
 pub fn test_order(i: usize, j: usize) -> NamedOrder
     ensures { λ o. ⌜ namedOf o ≡ testOrder i j ⌝ }
 {
-    let first = CellName(Family::TEMPORARIES, 0, 0);
+    let first = CellName(Family::Temporaries, 0, 0);
     if j < i {
-        let key = CellName(Family::KEYS, j, 0);
-        let next = CellName(Family::NEXTS, i, 0);
+        let key = CellName(Family::Keys, j, 0);
+        let next = CellName(Family::Nexts, i, 0);
         return NamedOrder::Operate(Kind::LESS, first, key, next);
     }
     if i < j {
-        let double = CellName(Family::DOUBLES, j, 0);
-        let key = CellName(Family::KEYS, i, 0);
+        let double = CellName(Family::Doubles, j, 0);
+        let key = CellName(Family::Keys, i, 0);
         return NamedOrder::Operate(Kind::LESS, first, double, key);
     }
-    let zero_cell = CellName(Family::ZERO_CELLS, 0, 0);
+    let zero_cell = CellName(Family::ZeroCells, 0, 0);
     NamedOrder::Operate(Kind::LESS, first, zero_cell, zero_cell)
 }
 
@@ -217,12 +218,12 @@ pub fn test_order(i: usize, j: usize) -> NamedOrder
 pub fn cut_turn(s: usize, a: usize, b: usize) -> NamedOrder
     ensures { λ o. ⌜ namedOf o ≡ named (cutTurn s a b) 0 ⌝ }
 {
-    let cut = CellName(Family::CUTS, s, 0);
+    let cut = CellName(Family::Cuts, s, 0);
     if is_leaving(s, a, b) {
-        let capacity = CellName(Family::CAPACITIES, a, b);
+        let capacity = CellName(Family::Capacities, a, b);
         return NamedOrder::Operate(Kind::SUM, cut, cut, capacity);
     }
-    let zero_cell = CellName(Family::ZERO_CELLS, 0, 0);
+    let zero_cell = CellName(Family::ZeroCells, 0, 0);
     NamedOrder::Operate(Kind::SUM, cut, cut, zero_cell)
 }
 
@@ -231,12 +232,12 @@ pub fn rest_turn(a: usize, b: usize, s: usize, r: usize) -> NamedOrder
     requires { ⌜ r < 4 ⌝ }
     ensures { λ o. ⌜ namedOf o ≡ named (restTurn a b s) r ⌝ }
 {
-    let third = CellName(Family::TEMPORARIES, 2, 0);
+    let third = CellName(Family::Temporaries, 2, 0);
     if is_leaving(s, a, b) {
-        let slack = CellName(Family::SLACKS, s, 0);
+        let slack = CellName(Family::Slacks, s, 0);
         return lowered_order(third, slack, r);
     }
-    let capacity = CellName(Family::CAPACITIES, a, b);
+    let capacity = CellName(Family::Capacities, a, b);
     lowered_order(third, capacity, r)
 }
 
@@ -244,16 +245,16 @@ pub fn rest_turn(a: usize, b: usize, s: usize, r: usize) -> NamedOrder
 pub fn take_turn(l: usize, a: usize, b: usize, s: usize) -> NamedOrder
     ensures { λ o. ⌜ namedOf o ≡ named (takeTurn l a b s) 0 ⌝ }
 {
-    let slack = CellName(Family::SLACKS, s, 0);
+    let slack = CellName(Family::Slacks, s, 0);
     if is_leaving(s, a, b) {
-        let third = CellName(Family::TEMPORARIES, 2, 0);
+        let third = CellName(Family::Temporaries, 2, 0);
         return NamedOrder::Operate(Kind::DIFFERENCE, slack, slack, third);
     }
     if is_leaving(s, b, a) {
-        let flow = CellName(Family::FLOWS, l, 0);
+        let flow = CellName(Family::Flows, l, 0);
         return NamedOrder::Operate(Kind::DIFFERENCE, slack, slack, flow);
     }
-    let zero_cell = CellName(Family::ZERO_CELLS, 0, 0);
+    let zero_cell = CellName(Family::ZeroCells, 0, 0);
     NamedOrder::Operate(Kind::DIFFERENCE, slack, slack, zero_cell)
 }
 
@@ -264,11 +265,13 @@ pub fn cost_turn(m: usize, d: CellName, s: usize, r: usize) -> NamedOrder
     requires { ⌜ r < 5 ⌝ }
     ensures { λ o. ⌜ namedOf o ≡ named (costTurn m (nameOf d) s) r ⌝ }
 {
-    let third = CellName(Family::TEMPORARIES, 2, 0);
+    let third = CellName(Family::Temporaries, 2, 0);
     if r == 0 {
         let sets = subset_count(m);
-        let cut = CellName(Family::CUTS, s, 0);
-        let outside = CellName(Family::SUBSETS, sets - 1 - s, 0);
+        let cut = CellName(Family::Cuts, s, 0);
+        let last = sets - 1;
+        let rest = last - s;
+        let outside = CellName(Family::Subsets, rest, 0);
         return NamedOrder::Operate(Kind::SUM, third, cut, outside);
     }
     lowered_order(d, third, r - 1)
@@ -279,12 +282,12 @@ pub fn highest_offer_turn(p: usize, i: usize, r: usize) -> NamedOrder
     requires { ⌜ r < 5 ⌝ }
     ensures { λ o. ⌜ namedOf o ≡ named (highestOfferTurn p i) r ⌝ }
 {
-    let third = CellName(Family::TEMPORARIES, 2, 0);
+    let third = CellName(Family::Temporaries, 2, 0);
     if r == 0 {
-        let membership = CellName(Family::MEMBERSHIPS, i, p);
-        let offer = CellName(Family::OFFERS, i, 0);
+        let membership = CellName(Family::Memberships, i, p);
+        let offer = CellName(Family::Offers, i, 0);
         return NamedOrder::Operate(Kind::PRODUCT, third, membership, offer);
     }
-    let highest_offer = CellName(Family::HIGHEST_OFFERS, p, 0);
+    let highest_offer = CellName(Family::HighestOffers, p, 0);
     raised_order(highest_offer, third, r - 1)
 }

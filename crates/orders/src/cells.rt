@@ -7,7 +7,8 @@ use crate::names::CellName;
 use crate::names::Kind;
 use crate::names::NamedOrder;
 use definitions::Order;
-use layout::Family;
+use plan::Family;
+use plan::number;
 
 // The cell of a name.
 fn cell_of(
@@ -21,7 +22,8 @@ fn cell_of(
     requires { ⌜ Placed n m (nameOf c) ⌝ }
     ensures { λ r. ⌜ r ≡ cellOf n m (nameOf c) ⌝ }
 {
-    let t = c.0;
+    let f = c.0;
+    let t = number(f);
     let row = c.1;
     let column = c.2;
     starts[t] + (row * columns[t] + column)

@@ -17,8 +17,8 @@ use crate::table::Shape;
 use crate::table::order_of;
 use crate::table::part_of;
 use crate::table::shape_of;
-use layout::Family;
 use machine::step;
+use plan::Family;
 
 // The orders of row i and column j in part q of phase k.
 fn run_turn(

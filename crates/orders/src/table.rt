@@ -2,7 +2,7 @@
 ghost use mathlib.Core.Path.{_≡_};
 ghost use Prim.Native.Nat.{_*_, _≤_, _<_};
 ghost use Rattle.definitions.specs.Limits.{bidLimit, poolLimit, cellCount};
-ghost use Rattle.plan.specs.Orders.{at};
+ghost use Rattle.plan.specs.Names.{at};
 ghost use Rattle.orders.specs.Walk.{namedOf};
 ghost use Rattle.plan.specs.Table.{scratchCount, phaseAt, phaseCount, demandPhase, cutPhase, sizeBeforePhase, rankPhase, placementPhase, slackPhase, linePhase, highestOfferPhase};
 ghost use Rattle.orders.specs.Shaped.{IsShape, PartIn, InPhase, orderIn};
@@ -25,8 +25,8 @@ use crate::names::Kind;
 use crate::names::NamedOrder;
 use crate::sets::lowest_pool;
 use definitions::Limits;
-use layout::Family;
 use layout::subset_count;
+use plan::Family;
 
 // The columns of a part of a phase's row, and how many orders each has.
 pub struct Columns(pub usize, pub usize);
@@ -126,7 +126,7 @@ fn demands(n: usize, m: usize, i: usize, q: usize, j: usize, r: usize) -> NamedO
     ensures { λ o. ⌜ namedOf o ≡ orderIn (demandPhase n m) i q j r ⌝ }
 {
     if q == 0 {
-        return NamedOrder::Constant(CellName(Family::DEMANDS, i, 0), 0);
+        return NamedOrder::Constant(CellName(Family::Demands, i, 0), 0);
     }
     demand_turn(i, j, r)
 }
@@ -138,14 +138,14 @@ fn cuts(n: usize, m: usize, i: usize, q: usize, j: usize, r: usize) -> NamedOrde
     ensures { λ o. ⌜ namedOf o ≡ orderIn (cutPhase n m) i q j r ⌝ }
 {
     if q == 0 {
-        return subset_order(m, j, CellName(Family::DEMANDS, lowest_pool(m, j), 0));
+        return subset_order(m, j, CellName(Family::Demands, lowest_pool(m, j), 0));
     }
     if r == 0 {
         return NamedOrder::Operate(
             Kind::SUM,
-            CellName(Family::CUTS, j, 0),
-            CellName(Family::SUBSETS, j, 0),
-            CellName(Family::ZERO_CELLS, 0, 0),
+            CellName(Family::Cuts, j, 0),
+            CellName(Family::Subsets, j, 0),
+            CellName(Family::ZeroCells, 0, 0),
         );
     }
     cut_turn(j, (r - 1) / m, (r - 1) % m)
@@ -158,7 +158,7 @@ fn sizes_before(n: usize, m: usize, i: usize, q: usize, j: usize, r: usize) -> N
     ensures { λ o. ⌜ namedOf o ≡ orderIn (sizeBeforePhase n m) i q j r ⌝ }
 {
     if q == 0 {
-        return NamedOrder::Constant(CellName(Family::SIZES_BEFORE, i, j), 0);
+        return NamedOrder::Constant(CellName(Family::SizesBefore, i, j), 0);
     }
     if r == 0 {
         return test_order(i, j);
@@ -170,8 +170,8 @@ fn sizes_before(n: usize, m: usize, i: usize, q: usize, j: usize, r: usize) -> N
 fn ranks(
     n: usize,
     m: usize,
-    t: usize,
-    u: usize,
+    t: Family,
+    u: Family,
     i: usize,
     q: usize,
     j: usize,
@@ -196,7 +196,7 @@ fn placements(n: usize, m: usize, i: usize, q: usize, j: usize, r: usize) -> Nam
     ensures { λ o. ⌜ namedOf o ≡ orderIn (placementPhase n m) i q j r ⌝ }
 {
     if q == 0 {
-        return NamedOrder::Constant(CellName(Family::PLACEMENTS, i, 0), 0);
+        return NamedOrder::Constant(CellName(Family::Placements, i, 0), 0);
     }
     placement_turn(i, j, r)
 }
@@ -208,13 +208,13 @@ fn slacks(n: usize, m: usize, i: usize, q: usize, j: usize, r: usize) -> NamedOr
     ensures { λ o. ⌜ namedOf o ≡ orderIn (slackPhase n m) i q j r ⌝ }
 {
     if q == 0 {
-        return subset_order(m, j, CellName(Family::PLACEMENTS, lowest_pool(m, j), 0));
+        return subset_order(m, j, CellName(Family::Placements, lowest_pool(m, j), 0));
     }
     NamedOrder::Operate(
         Kind::DIFFERENCE,
-        CellName(Family::SLACKS, j, 0),
-        CellName(Family::CUTS, j, 0),
-        CellName(Family::SUBSETS, j, 0),
+        CellName(Family::Slacks, j, 0),
+        CellName(Family::Cuts, j, 0),
+        CellName(Family::Subsets, j, 0),
     )
 }
 
@@ -225,19 +225,19 @@ fn lines(n: usize, m: usize, i: usize, q: usize, j: usize, r: usize) -> NamedOrd
 {
     let a = i / m;
     let b = i % m;
-    let third = CellName(Family::TEMPORARIES, 2, 0);
-    let capacity = CellName(Family::CAPACITIES, a, b);
+    let third = CellName(Family::Temporaries, 2, 0);
+    let capacity = CellName(Family::Capacities, a, b);
     match q {
         0 => NamedOrder::Operate(
             Kind::SUM,
             third,
             capacity,
-            CellName(Family::ZERO_CELLS, 0, 0),
+            CellName(Family::ZeroCells, 0, 0),
         ),
         1 => rest_turn(a, b, j, r),
         2 => NamedOrder::Operate(
             Kind::DIFFERENCE,
-            CellName(Family::FLOWS, i, 0),
+            CellName(Family::Flows, i, 0),
             capacity,
             third,
         ),
@@ -251,7 +251,7 @@ fn highest_offers(n: usize, m: usize, i: usize, q: usize, j: usize, r: usize) ->
     ensures { λ o. ⌜ namedOf o ≡ orderIn (highestOfferPhase n m) i q j r ⌝ }
 {
     if q == 0 {
-        return NamedOrder::Constant(CellName(Family::HIGHEST_OFFERS, i, 0), 0);
+        return NamedOrder::Constant(CellName(Family::HighestOffers, i, 0), 0);
     }
     highest_offer_turn(i, j, r)
 }
@@ -265,68 +265,68 @@ pub fn order_of(n: usize, m: usize, k: usize, i: usize, q: usize, j: usize, r: u
     ensures { λ o. ⌜ namedOf o ≡ orderIn (phaseAt n m k) i q j r ⌝ }
 {
     match k {
-        0 => NamedOrder::Constant(CellName(Family::UNITS, i, 0), 1),
-        1 => NamedOrder::Constant(CellName(Family::SHIFTS, i, 0), Limits::PRICE as u32 + 1),
-        2 => NamedOrder::Constant(CellName(Family::POOL_NUMBERS, i, 0), (i + 1) as u32),
+        0 => NamedOrder::Constant(CellName(Family::Units, i, 0), 1),
+        1 => NamedOrder::Constant(CellName(Family::Shifts, i, 0), Limits::PRICE as u32 + 1),
+        2 => NamedOrder::Constant(CellName(Family::PoolNumbers, i, 0), (i + 1) as u32),
         3 => NamedOrder::Operate(
             Kind::LESS,
-            CellName(Family::SIDES, i, 0),
-            CellName(Family::ZERO_CELLS, 0, 0),
-            CellName(Family::BIDS, i, 2),
+            CellName(Family::Sides, i, 0),
+            CellName(Family::ZeroCells, 0, 0),
+            CellName(Family::Bids, i, Limits::QUANTITY_PLACE),
         ),
         4 => size_order(i, r),
         5 => NamedOrder::Operate(
             Kind::SUM,
-            CellName(Family::POSITIVE_PRICES, i, 0),
-            CellName(Family::BIDS, i, 1),
-            CellName(Family::SHIFTS, 0, 0),
+            CellName(Family::PositivePrices, i, 0),
+            CellName(Family::Bids, i, Limits::PRICE_PLACE),
+            CellName(Family::Shifts, 0, 0),
         ),
         6 => NamedOrder::Operate(
             Kind::SUM,
-            CellName(Family::DOUBLES, i, 0),
-            CellName(Family::POSITIVE_PRICES, i, 0),
-            CellName(Family::POSITIVE_PRICES, i, 0),
+            CellName(Family::Doubles, i, 0),
+            CellName(Family::PositivePrices, i, 0),
+            CellName(Family::PositivePrices, i, 0),
         ),
         7 => NamedOrder::Operate(
             Kind::SUM,
-            CellName(Family::KEYS, i, 0),
-            CellName(Family::DOUBLES, i, 0),
-            CellName(Family::SIDES, i, 0),
+            CellName(Family::Keys, i, 0),
+            CellName(Family::Doubles, i, 0),
+            CellName(Family::Sides, i, 0),
         ),
         8 => NamedOrder::Operate(
             Kind::SUM,
-            CellName(Family::NEXTS, i, 0),
-            CellName(Family::DOUBLES, i, 0),
-            CellName(Family::UNITS, 0, 0),
+            CellName(Family::Nexts, i, 0),
+            CellName(Family::Doubles, i, 0),
+            CellName(Family::Units, 0, 0),
         ),
         9 => NamedOrder::Operate(
             Kind::EQUAL,
-            CellName(Family::MEMBERSHIPS, i, j),
-            CellName(Family::BIDS, i, 0),
-            CellName(Family::POOL_NUMBERS, j, 0),
+            CellName(Family::Memberships, i, j),
+            CellName(Family::Bids, i, 0),
+            CellName(Family::PoolNumbers, j, 0),
         ),
         10 => NamedOrder::Operate(
             Kind::PRODUCT,
-            CellName(Family::POOL_SIZES, i, j),
-            CellName(Family::MEMBERSHIPS, i, j),
-            CellName(Family::SIZES, i, 0),
+            CellName(Family::PoolSizes, i, j),
+            CellName(Family::Memberships, i, j),
+            CellName(Family::Sizes, i, 0),
         ),
         11 => demands(n, m, i, q, j, r),
         12 => cuts(n, m, i, q, j, r),
         13 => sizes_before(n, m, i, q, j, r),
-        14 => ranks(n, m, Family::SIZES_BEFORE, Family::RANKS_BEFORE, i, q, j, r),
+        14 => ranks(n, m, Family::SizesBefore, Family::RanksBefore, i, q, j, r),
         15 => NamedOrder::Operate(
             Kind::SUM,
-            CellName(Family::SIZES_WITH, i, j),
-            CellName(Family::SIZES_BEFORE, i, j),
-            CellName(Family::POOL_SIZES, i, j),
+            CellName(Family::SizesWith, i, j),
+            CellName(Family::SizesBefore, i, j),
+            CellName(Family::PoolSizes, i, j),
         ),
-        16 => ranks(n, m, Family::SIZES_WITH, Family::RANKS_WITH, i, q, j, r),
+        16 => ranks(n, m, Family::SizesWith, Family::RanksWith, i, q, j, r),
         17 => NamedOrder::Operate(
             Kind::DIFFERENCE,
-            CellName(Family::USES, i, 0),
-            CellName(Family::RANKS_WITH, i, 0),
-            CellName(Family::RANKS_BEFORE, i, 0),
+            CellName(Family::Uses, i, 0),
+            CellName(Family::RanksWith, i, 0),
+            CellName(Family::RanksBefore, i, 0),
         ),
         18 => amount_order(i, r),
         19 => placements(n, m, i, q, j, r),
@@ -335,6 +335,6 @@ pub fn order_of(n: usize, m: usize, k: usize, i: usize, q: usize, j: usize, r: u
         22 => offer_order(i, r),
         23 => highest_offers(n, m, i, q, j, r),
         24 => price_order(i, r),
-        25.. => NamedOrder::Constant(CellName(Family::TEMPORARIES, j, 0), 0),
+        25.. => NamedOrder::Constant(CellName(Family::Temporaries, j, 0), 0),
     }
 }

@@ -22,7 +22,7 @@ use crate::table::Shape;
 use crate::table::order_of;
 use crate::table::part_of;
 use crate::table::shape_of;
-use layout::Family;
+use plan::Family;
 
 // How many orders a part of a row has.
 fn area(p: Columns) -> usize

@@ -13,7 +13,7 @@ use crate::Written;
 use crate::table::PHASES;
 use crate::walk::order_in;
 use codec::write_order;
-use layout::Family;
+use plan::Family;
 
 // As many whole orders as fit, by tables made before.
 pub fn write_from(

@@ -4,8 +4,8 @@ use mathlib.Core.List.{List, [], _∷_}
 use Prim.Native.Nat.{ℕ, suc}
 use lib.Dec.{ltb}
 use Rattle.definitions.specs.Limits.{priceLimit, greatestPositive}
-use Rattle.plan.specs.Orders.{OrderOn, constant, sum, difference, product, less, equal, Name, at}
-use Rattle.plan.specs.Names.{units, shifts, Pool, Price, Quantity, Capacity, Amount, Flow, PoolPrice, Presence, Temporary, ZeroCell, One, Shift, PoolNumber, Side, Size, PositivePrice, Double, Key, Next, Membership, PoolSize, Demand, Subset, Cut, SizeBefore, RankBefore, SizeWith, RankWith, Used, Placement, Slack, Offer, HighestOffer}
+use Rattle.plan.specs.Orders.{OrderOn, constant, sum, difference, product, less, equal}
+use Rattle.plan.specs.Names.{Name, at, Units, Shifts, Pool, Price, Quantity, Capacity, Amount, Flow, PoolPrice, Presence, Temporary, ZeroCell, One, Shift, PoolNumber, Side, Size, PositivePrice, Double, Key, Next, Membership, PoolSize, Demand, Subset, Cut, SizeBefore, RankBefore, SizeWith, RankWith, Used, Placement, Slack, Offer, HighestOffer}
 use Rattle.plan.specs.Subsets.{leaves, complement}
 use Rattle.plan.specs.Running.{lowered, raised}
 
@@ -17,11 +17,11 @@ Block = List (OrderOn Name)
 
 -- the number 1
 abbrev pub unitBlock : ℕ → Block
-unitBlock i = constant (at units i 0) 1 ∷ []
+unitBlock i = constant (at Units i 0) 1 ∷ []
 
 -- what makes a price positive
 abbrev pub shiftBlock : ℕ → Block
-shiftBlock i = constant (at shifts i 0) (suc priceLimit) ∷ []
+shiftBlock i = constant (at Shifts i 0) (suc priceLimit) ∷ []
 
 -- the number of pool p in a book
 abbrev pub poolNumberBlock : ℕ → Block

@@ -18,9 +18,9 @@ use Rattle.definitions.specs.Sheet.{sealedSheet, firstResult, amountCell, flowC
 use Rattle.definitions.specs.Machine.{cell, runOf}
 use Rattle.laws.specs.Tests.{Lt?, less, more, lt?}
 use Rattle.laws.specs.AcceptedBook.{Sound}
-use Rattle.plan.specs.Orders.{OrderOn, constant, operate, target, orderOf, renamed, Name, at, run}
+use Rattle.plan.specs.Orders.{OrderOn, constant, operate, target, orderOf, renamed, run}
 use Rattle.plan.specs.Loops.{loop, listed}
-use Rattle.plan.specs.Names.{amounts, flows, prices, temporaries, familyCount, rowsOf, columnsOf}
+use Rattle.plan.specs.Names.{Family, number, Name, at, Amounts, Flows, Prices, Temporaries, familyCount, rowsOf, columnsOf}
 use Rattle.plan.specs.Layout.{address-below, address-apart}
 use Rattle.laws.specs.Run.{run-append}
 use Rattle.plan.specs.Simulation.{run-length, run-other, AllNamed, run-agrees}
@@ -134,14 +134,14 @@ module _ (B : Book) (sound : Sound B) where
       sealed
 
   -- the results, by their names
-  result-cell : (t : ℕ) → listed outputs t ≡ true → t < temporaries → (i j : ℕ) → i < rowsOf (B .n) (B .m) t → j < columnsOf (B .n) (B .m) t
+  result-cell : (t : Family) → listed outputs t ≡ true → number t < number Temporaries → (i j : ℕ) → i < rowsOf (B .n) (B .m) t → j < columnsOf (B .n) (B .m) t
       → cell clearedSheet (cellOf (B .n) (B .m) (at t i j)) ≡ tables B .value t i j
   unfolding from
   result-cell t e l i j a b =
       let c : ℕ = cellOf (B .n) (B .m) (at t i j) in
       ap (λ (r : List ℕ). cell r c) cleared-is
       ∙ zeroed-out (B .n) (B .m) (scratchCount (B .n) (B .m)) worked c
-      (λ k _. omega (arith, from-scratch (B .n) (B .m), address-below (rowsOf (B .n) (B .m)) (columnsOf (B .n) (B .m)) temporaries (at t i j) (l, a, b)))
+      (λ k _. omega (arith, from-scratch (B .n) (B .m), address-below (rowsOf (B .n) (B .m)) (columnsOf (B .n) (B .m)) (number Temporaries) (at t i j) (l, a, b)))
       ∙ worked-value (at t i j) (omega arith, a, b)
       ∙ work-done B sound (sealedState B sound) (sealed-inputs B sound) t e i j a b
 
@@ -166,9 +166,9 @@ module _ (B : Book) (sound : Sound B) where
   plan-clears = record {
     length-kept = cleared-length;
     inputs-kept = λ c h. untouched c (λ w. omega (arith, w .0));
-    amount-cells = λ i a. at-cell (cellOf (B .n) (B .m) (at amounts i 0)) (amountCell (B .n) (B .m) i) _ (omega arith) (result-cell amounts refl (lit< tt) i 0 a (lit< tt));
-    flow-cells = λ a b x y. at-cell (cellOf (B .n) (B .m) (at flows (a * B .m + b) 0)) (flowCell (B .n) (B .m) a b) _ (omega arith) (result-cell flows refl (lit< tt) (a * B .m + b) 0 (digits-lt x y) (lit< tt));
-    price-cells = λ p a. at-cell (cellOf (B .n) (B .m) (at prices p 0)) (priceCell (B .n) (B .m) p) _ (omega arith) (result-cell prices refl (lit< tt) p 0 a (lit< tt));
-    presence-cells = λ p a. at-cell (cellOf (B .n) (B .m) (at prices p 1)) (presenceCell (B .n) (B .m) p) _ (omega arith) (result-cell prices refl (lit< tt) p 1 a (lit< tt));
+    amount-cells = λ i a. at-cell (cellOf (B .n) (B .m) (at Amounts i 0)) (amountCell (B .n) (B .m) i) _ (omega arith) (result-cell Amounts refl (lit< tt) i 0 a (lit< tt));
+    flow-cells = λ a b x y. at-cell (cellOf (B .n) (B .m) (at Flows (a * B .m + b) 0)) (flowCell (B .n) (B .m) a b) _ (omega arith) (result-cell Flows refl (lit< tt) (a * B .m + b) 0 (digits-lt x y) (lit< tt));
+    price-cells = λ p a. at-cell (cellOf (B .n) (B .m) (at Prices p 0)) (priceCell (B .n) (B .m) p) _ (omega arith) (result-cell Prices refl (lit< tt) p 0 a (lit< tt));
+    presence-cells = λ p a. at-cell (cellOf (B .n) (B .m) (at Prices p 1)) (presenceCell (B .n) (B .m) p) _ (omega arith) (result-cell Prices refl (lit< tt) p 1 a (lit< tt));
     scratch-zero = scratch-cell;
   }

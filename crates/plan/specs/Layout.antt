@@ -1,5 +1,6 @@
--- A layout: family t is a table of rows t by columns t cells, and the tables stand one after another. Different names have different cells (`address-apart`).
-use mathlib.Core.Path.{_≡_, ap}
+-- A layout: family t is a table of rows t by columns t cells, and the tables stand one after another by the families' numbers.
+-- Different names have different cells (`address-apart`).
+use mathlib.Core.Path.{_≡_, ap, subst}
 use mathlib.Core.Bool.{Bool}
 use Prim.Native.Nat.{ℕ, suc, _+_, _*_, _≤_, _<_}
 use native.Mathlib.Omega.{arith}
@@ -7,41 +8,43 @@ use lib.Arith.{digits-lt, digits-div, digits-mod}
 use Rattle.definitions.specs.Arithmetic.{sumTo}
 use Rattle.laws.specs.Sum.{sum-prefix}
 use Rattle.laws.specs.Tests.{Lt?, less, more, lt?}
-use Rattle.plan.specs.Orders.{Name, at}
+use Rattle.plan.specs.Names.{Family, number, familyAt, at-number, number-same, Name, at}
 
-module _ (rows columns : ℕ → ℕ) where
-  -- where family t begins
+module _ (rows columns : Family → ℕ) where
+  -- where family k begins
   abbrev pub base : ℕ → ℕ
-  base t = sumTo t (λ u. rows u * columns u)
+  base k = sumTo k (λ u. rows (familyAt u) * columns (familyAt u))
 
   -- the cell of a name
   abbrev pub address : Name → ℕ
-  address (at t i j) = base t + (i * columns t + j)
+  address (at t i j) = base (number t) + (i * columns t + j)
 
   -- c is a cell of one of the first k families
   abbrev pub Named : ℕ → Name → Type 0
-  Named k (at t i j) = (t < k) × (i < rows t) × (j < columns t)
+  Named k (at t i j) = (number t < k) × (i < rows t) × (j < columns t)
 
-  in-table : (t i j : ℕ) → i < rows t → j < columns t → i * columns t + j < rows t * columns t
+  in-table : (t : Family) (i j : ℕ) → i < rows t → j < columns t → i * columns t + j < rows t * columns t
   in-table t i j a b = digits-lt a b
 
-  table-end : (t k : ℕ) → t < k → base t + rows t * columns t ≤ base k
+  table-end : (t : Family) (k : ℕ) → number t < k → base (number t) + rows t * columns t ≤ base k
   unfolding sumTo
-  table-end t k h = sum-prefix (suc t) k (λ u. rows u * columns u) h
+  table-end t k h =
+      subst (λ (u : Family). base (number t) + rows u * columns u ≤ base k) (at-number t)
+      (sum-prefix (suc (number t)) k (λ u. rows (familyAt u) * columns (familyAt u)) h)
 
   pub base-grows : (t k : ℕ) → t ≤ k → base t ≤ base k
-  base-grows t k h = sum-prefix t k (λ u. rows u * columns u) h
+  base-grows t k h = sum-prefix t k (λ u. rows (familyAt u) * columns (familyAt u)) h
 
   pub address-below : (k : ℕ) (c : Name) → Named k c → address c < base k
   address-below k (at t i j) h = omega (arith, in-table t i j (h .1) (h .2), table-end t k (h .0))
 
   pub address-apart : (k : ℕ) (c d : Name) → Named k c → Named k d → address c ≡ address d → c ≡ d
-  address-apart k (at t i j) (at u a b) h g e = go (lt? t u) (lt? u t)
+  address-apart k (at t i j) (at u a b) h g e = go (lt? (number t) (number u)) (lt? (number u) (number t))
     where
-      go : {x y : Bool} → Lt? t u x → Lt? u t y → at t i j ≡ at u a b
-      go (less p) q = absurd (omega (arith, e, in-table t i j (h .1) (h .2), table-end t u p))
-      go (more p) (less q) = absurd (omega (arith, e, in-table u a b (g .1) (g .2), table-end u t q))
+      go : {x y : Bool} → Lt? (number t) (number u) x → Lt? (number u) (number t) y → at t i j ≡ at u a b
+      go (less p) q = absurd (omega (arith, e, in-table t i j (h .1) (h .2), table-end t (number u) p))
+      go (more p) (less q) = absurd (omega (arith, e, in-table u a b (g .1) (g .2), table-end u (number t) q))
       go (more p) (more q) =
-          let tu : t ≡ u = omega arith in
-          let ee : i * columns t + j ≡ a * columns u + b = omega (arith, e, ap base tu) in
+          let tu : t ≡ u = number-same t u (omega arith) in
+          let ee : i * columns t + j ≡ a * columns u + b = omega (arith, e, ap (λ (f : Family). base (number f)) tu) in
           cc (digits-div i (h .2), digits-div a (g .2), digits-mod i (h .2), digits-mod a (g .2), ap columns tu)

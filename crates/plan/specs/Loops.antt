@@ -8,7 +8,8 @@ use native.Mathlib.Nat.{not-suc-le-zero, eq-or-lt-of-le, le-of-suc-le-suc, le-re
 use native.Mathlib.Omega.{arith}
 use lib.Dec.{eqb}
 use borrow.Author.Tests.{eq-eqb, eqb-true}
-use Rattle.plan.specs.Orders.{OrderOn, target, outcome, Name, at, family, same, State, step, run}
+use Rattle.plan.specs.Orders.{OrderOn, target, outcome, State, step, run}
+use Rattle.plan.specs.Names.{Family, number, family-equal, Name, at, family, same}
 
 module _ {A : Type 0} where
   -- block 0, then block 1, up to block k - 1
@@ -31,12 +32,12 @@ loop-invariant P (suc k) f s base turn =
 -- ---- which cells are written
 
 -- t is one of ts
-abbrev pub listed : List ℕ → ℕ → Bool
+abbrev pub listed : List Family → Family → Bool
 listed [] t = false
-listed (u ∷ ts) t = eqb u t || listed ts t
+listed (u ∷ ts) t = eqb (number u) (number t) || listed ts t
 
 -- c is of one of these families
-abbrev pub among : List ℕ → Name → Bool
+abbrev pub among : List Family → Name → Bool
 among ts c = listed ts (family c)
 
 -- every order writes a cell that passes W
@@ -68,13 +69,13 @@ pub eqb-same : (i : ℕ) → eqb i i ≡ true
 eqb-same i = eq-eqb i i refl
 
 pub same-self : (c : Name) → same c c ≡ true
-same-self (at t i j) = rw (eqb-same t, eqb-same i, eqb-same j)
+same-self (at t i j) = rw (eqb-same (number t), eqb-same i, eqb-same j)
 
 pub same-equal : (c d : Name) → same c d ≡ true → c ≡ d
-same-equal (at s a b) (at t c d) e = go (eqb s t) (eqb a c) (eqb b d) refl refl refl e
+same-equal (at s a b) (at t c d) e = go (eqb (number s) (number t)) (eqb a c) (eqb b d) refl refl refl e
   where
-    go : (x y z : Bool) → eqb s t ≡ x → eqb a c ≡ y → eqb b d ≡ z → x && (y && z) ≡ true → at s a b ≡ at t c d
-    go true true true p q r e = cc (eqb-true s t p, eqb-true a c q, eqb-true b d r)
+    go : (x y z : Bool) → eqb (number s) (number t) ≡ x → eqb a c ≡ y → eqb b d ≡ z → x && (y && z) ≡ true → at s a b ≡ at t c d
+    go true true true p q r e = cc (family-equal s t p, eqb-true a c q, eqb-true b d r)
     go true true false p q r e = absurd (false≢true e)
     go true false z p q r e = absurd (false≢true e)
     go false y z p q r e = absurd (false≢true e)

@@ -2,16 +2,16 @@
 use mathlib.Core.List.{List, map}
 use Prim.Native.Nat.{ℕ}
 use Rattle.definitions.specs.declared.Order.{Order}
-use Rattle.plan.specs.Orders.{OrderOn, orderOf, renamed, Name}
-use Rattle.plan.specs.Names.{rowsOf, columnsOf}
+use Rattle.plan.specs.Orders.{OrderOn, orderOf, renamed}
+use Rattle.plan.specs.Names.{Name, rowsOf, columnsOf}
 use Rattle.plan.specs.Layout.{base, address}
 use Rattle.plan.specs.Phased.{flat}
 use Rattle.plan.specs.Table.{table}
 
 module _ (n m : ℕ) where
-  -- where family t begins
+  -- where family k begins
   unfoldable pub from : ℕ → ℕ
-  from t = base (rowsOf n m) (columnsOf n m) t
+  from k = base (rowsOf n m) (columnsOf n m) k
 
   -- the cell of a name
   abbrev pub cellOf : Name → ℕ

@@ -1,12 +1,12 @@
 -- Orders over any cells, by name or by number, and the machine's run over names. Over numbers they are the unit's orders (`orderOf`).
 use Prim.Native.Nat.{ℕ}
 use mathlib.Core.Path.{_≡_, refl}
-use mathlib.Core.Bool.{Bool, cond, _&&_}
+use mathlib.Core.Bool.{cond}
 use mathlib.Core.List.{List, [], _∷_}
-use lib.Dec.{eqb}
 use lib.ListN.{set}
 use Rattle.definitions.specs.declared.Order.{Order}
 use Rattle.definitions.specs.declared.Order.the-variants as unit
+use Rattle.plan.specs.Names.{Name, same}
 use Rattle.definitions.specs.Machine.{cell, plus, minus, times, lessThan, sameAs, stepOf}
 
 -- the five kinds of order that read two cells
@@ -78,22 +78,6 @@ step-is s (operate comparing d a b) = refl
 step-is s (operate equating d a b) = refl
 
 -- ---- over names
-
--- a name: a family of cells, and two indices in it
-pub data Name : Type 0 where
-  at : ℕ → ℕ → ℕ → Name
-
--- the family of a name
-abbrev pub family : Name → ℕ
-family (at t i j) = t
-
--- its row there
-abbrev pub row : Name → ℕ
-row (at t i j) = i
-
--- are two names the same?
-abbrev pub same : Name → Name → Bool
-same (at s a b) (at t c d) = eqb s t && (eqb a c && eqb b d)
 
 -- what each named cell holds
 abbrev pub State : Type 0

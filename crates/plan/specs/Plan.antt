@@ -13,8 +13,8 @@ use Rattle.definitions.specs.Arithmetic.{sumTo}
 use Rattle.definitions.specs.Sheet.{firstResult, firstScratch}
 use Rattle.definitions.specs.Machine.{WellFormed}
 use Rattle.definitions.specs.Outcome.{orderLimit}
-use Rattle.plan.specs.Orders.{OrderOn, constant, operate, Operation, adding, subtracting, multiplying, comparing, equating, target, orderOf, renamed, Name, at, family}
-use Rattle.plan.specs.Names.{amounts, temporaries, Temporary, familyCount, rowsOf, columnsOf}
+use Rattle.plan.specs.Orders.{OrderOn, constant, operate, Operation, adding, subtracting, multiplying, comparing, equating, target, orderOf, renamed}
+use Rattle.plan.specs.Names.{number, Name, at, family, Amounts, Temporaries, Temporary, familyCount, rowsOf, columnsOf}
 use Rattle.plan.specs.Layout.{address-below, base-grows}
 use Rattle.plan.specs.Entries.{All, all-map}
 use Rattle.plan.specs.Phased.{rowSize, tableSize, flat, flat-length, Has, has-map, EachPhase, each-flat, each-last}
@@ -36,11 +36,11 @@ names-fit n m h k = omega (arith, power-small m k, mul-le-mul h k, mul-le-mul k 
 module _ (n m : ℕ) where
   -- ---- where results and scratch begin, and where the names end
 
-  pub from-result : from n m amounts ≡ firstResult n m
+  pub from-result : from n m (number Amounts) ≡ firstResult n m
   unfolding from sumTo
   from-result = omega arith
 
-  pub from-scratch : from n m temporaries ≡ firstScratch n m
+  pub from-scratch : from n m (number Temporaries) ≡ firstScratch n m
   unfolding from sumTo
   from-scratch = omega arith
 
@@ -95,7 +95,7 @@ module _ (n m : ℕ) where
 
   -- a name of a family, with a cell of the sheet
   abbrev pub Placed : Name → Type 0
-  Placed c = (family c < familyCount) × (cellOf n m c < cellCount)
+  Placed c = (number (family c) < familyCount) × (cellOf n m c < cellCount)
 
   -- an order on such cells, whose target may be written
   abbrev pub PlacedOrder : OrderOn Name → Type 0
@@ -106,9 +106,9 @@ module _ (n m : ℕ) where
   unfolding from
   name-below c h = omega (arith, from-end, address-below (rowsOf n m) (columnsOf n m) familyCount c h)
 
-  name-writable : (c : Name) → Valid n m c → amounts ≤ family c → Writable (cellOf n m c)
+  name-writable : (c : Name) → Valid n m c → number Amounts ≤ number (family c) → Writable (cellOf n m c)
   unfolding from
-  name-writable (at t i j) h l = (omega (arith, from-result, base-grows (rowsOf n m) (columnsOf n m) amounts t l), name-below (at t i j) h)
+  name-writable (at t i j) h l = (omega (arith, from-result, base-grows (rowsOf n m) (columnsOf n m) (number Amounts) (number t) l), name-below (at t i j) h)
 
   module _ (h : n ≤ bidLimit) (k : m ≤ poolLimit) where
     name-placed : (c : Name) → Valid n m c → Placed c

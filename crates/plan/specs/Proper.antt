@@ -6,9 +6,9 @@ use native.Mathlib.Omega.{arith}
 use lib.Dec.{ltb}
 use Rattle.definitions.specs.Limits.{modulus}
 use Rattle.laws.specs.Tests.{Eq?, same, diff, eq?}
-use Rattle.plan.specs.Orders.{OrderOn, constant, operate, Name, at, family}
+use Rattle.plan.specs.Orders.{OrderOn, constant, operate}
 use Rattle.plan.specs.Layout.{Named}
-use Rattle.plan.specs.Names.{amounts, sizesBefore, sizesWith, ranksBefore, ranksWith, familyCount, rowsOf, columnsOf, Capacity, Temporary, ZeroCell, Demand, Placement}
+use Rattle.plan.specs.Names.{Family, number, Name, at, family, Amounts, SizesBefore, SizesWith, RanksBefore, RanksWith, familyCount, rowsOf, columnsOf, Capacity, Temporary, ZeroCell, Demand, Placement}
 use Rattle.plan.specs.Subsets.{leaves, lowest, others, lowest-below, others-below}
 use Rattle.plan.specs.Running.{subsetOrder, subsetBlock, lowered}
 use Rattle.plan.specs.Blocks.{cutTurn, testAt, testOrder, gainTurn, costTurn, restStart, restCell, restTurn, flowBlock, takenCell, takeTurn}
@@ -25,8 +25,8 @@ module _ (n m : ℕ) where
 
   -- an order on such cells, whose target is no input
   abbrev pub Proper : OrderOn Name → Type 0
-  Proper (constant d k) = Valid d × (amounts ≤ family d) × (k < modulus)
-  Proper (operate op d a b) = Valid d × (amounts ≤ family d) × Valid a × Valid b
+  Proper (constant d k) = Valid d × (number Amounts ≤ number (family d)) × (k < modulus)
+  Proper (operate op d a b) = Valid d × (number Amounts ≤ number (family d)) × Valid a × Valid b
 
   chosen-valid : (x : Bool) (c : Name) → Valid c → Valid (cond x c ZeroCell)
   chosen-valid true c h = h
@@ -59,7 +59,7 @@ module _ (n m : ℕ) where
   turn-proper i j a b = (test-proper i j a b, all-loop Proper m (gainTurn i j) (λ p l. omega arith))
 
   -- a cost in cell i of family u
-  cost-proper : (u i S : ℕ) → Valid (at u i 0) → amounts ≤ u → S < 2 ^ m → All Proper (costTurn m (at u i 0) S)
+  cost-proper : (u : Family) (i S : ℕ) → Valid (at u i 0) → number Amounts ≤ number u → S < 2 ^ m → All Proper (costTurn m (at u i 0) S)
   cost-proper u i S v h l =
       omega arith
       & (omega arith, omega arith, omega arith, v)
@@ -69,7 +69,7 @@ module _ (n m : ℕ) where
       & tt
 
   -- ranks in family u of the sizes in family t
-  rank-proper : (t u : ℕ) → ((i p : ℕ) → i < n → p < m → Valid (at t i p)) → ((i : ℕ) → i < n → Valid (at u i 0)) → amounts ≤ u
+  rank-proper : (t u : Family) → ((i p : ℕ) → i < n → p < m → Valid (at t i p)) → ((i : ℕ) → i < n → Valid (at u i 0)) → number Amounts ≤ number u
       → EachPart Proper n (rankPhase n m (at t) (λ i. at u i 0) .parts)
   rank-proper t u sizes ranks h =
       (λ i S a b. subset-proper (at t i) (λ p l. sizes i p a l) S b)
@@ -132,9 +132,9 @@ module _ (n m : ℕ) where
       & ((λ p j a b. omega arith) & (λ p i a b. omega arith) & tt)
       & ((λ _ S a b. subset-proper Demand (λ p l. omega arith) S b) & (λ _ S a b. cut-proper S b) & tt)
       & ((λ i p a b. omega arith) & turn-proper & tt)
-      & rank-proper sizesBefore ranksBefore (λ i p a b. omega arith) (λ i a. omega arith) (omega arith)
+      & rank-proper SizesBefore RanksBefore (λ i p a b. omega arith) (λ i a. omega arith) (omega arith)
       & ((λ i p a b. omega arith) & tt)
-      & rank-proper sizesWith ranksWith (λ i p a b. omega arith) (λ i a. omega arith) (omega arith)
+      & rank-proper SizesWith RanksWith (λ i p a b. omega arith) (λ i a. omega arith) (omega arith)
       & ((λ i j a b. omega arith) & tt)
       & ((λ i j a b. omega arith) & tt)
       & ((λ p j a b. omega arith) & (λ p i a b. omega arith) & tt)

@@ -15,11 +15,11 @@ use Rattle.laws.specs.Sum.{sum-prefix}
 use Rattle.laws.specs.Extremes.{minTo}
 use Rattle.laws.specs.AcceptedBook.{Sound}
 use Rattle.theory.specs.ClosedBest.{sizeTotal, key-small, used-and-rank, used-size, ahead-small}
-use Rattle.plan.specs.Orders.{constant, Name, at, same, run, State}
+use Rattle.plan.specs.Orders.{constant, run, State}
 use Rattle.plan.specs.Residues.{plus-small, minus-small, times-on, less-small, min-small}
 use Rattle.plan.specs.Loops.{loop, named-run-append, loop-invariant, among, writes, writes-append, writes-loop, keep, eqb-same, loop-own}
 use Rattle.plan.specs.Holds.{Holds, Phase, holds-keep, holds-part, touches, touches-among, fill-column, fill-rows, fill-cells}
-use Rattle.plan.specs.Names.{zeroCells, sides, sizes, doubles, keys, nexts, poolSizes, subsets, cuts, sizesBefore, ranksBefore, sizesWith, ranksWith, uses, amounts, temporaries, Temporary, PoolSize, Subset, SizeBefore, RankBefore, SizeWith, RankWith}
+use Rattle.plan.specs.Names.{Family, number, Name, at, same, ZeroCells, Sides, Sizes, Doubles, Keys, Nexts, PoolSizes, Subsets, Cuts, SizesBefore, RanksBefore, SizesWith, RanksWith, Uses, Amounts, Temporaries, Temporary, PoolSize, Subset, SizeBefore, RankBefore, SizeWith, RankWith}
 use Rattle.plan.specs.Subsets.{member, complement, subsetSum, subset-outside}
 use Rattle.plan.specs.Running.{Lowers, lower, subset-sums}
 use Rattle.plan.specs.Values.{tables, rate, key, weight, cut, ahead, reach, rank, usedAmount, acceptedAmount}
@@ -40,8 +40,8 @@ module _ (B : Book) (sound : Sound B) where
   -- ---- the sizes of the bids before bid i, pool by pool
 
   -- what a test and its gains read
-  abbrev sizeBeforeReads : List ℕ
-  sizeBeforeReads = doubles ∷ keys ∷ nexts ∷ poolSizes ∷ zeroCells ∷ []
+  abbrev sizeBeforeReads : List Family
+  sizeBeforeReads = Doubles ∷ Keys ∷ Nexts ∷ PoolSizes ∷ ZeroCells ∷ []
 
   -- they hold what they should
   abbrev Compared : State → Type 0
@@ -60,12 +60,12 @@ module _ (B : Book) (sound : Sound B) where
     where
       go : (x y : Bool) → run (testAt x y i j ∷ []) t (Temporary 0) ≡ on (keyTest x y B j i) 1
       go true y =
-          rw (h keys refl j 0 b (lit< tt), h nexts refl i 0 a (lit< tt))
+          rw (h Keys refl j 0 b (lit< tt), h Nexts refl i 0 a (lit< tt))
           (less-small (key B j) (2 * rate B i + 1) (omega (arith, key-small B sound j b)) (omega (arith, sound .price-small i a)))
       go false true =
-          rw (h doubles refl j 0 b (lit< tt), h keys refl i 0 a (lit< tt))
+          rw (h Doubles refl j 0 b (lit< tt), h Keys refl i 0 a (lit< tt))
           (less-small (2 * rate B j) (key B i) (omega (arith, sound .price-small j b)) (omega (arith, key-small B sound i a)))
-      go false false = rw (h zeroCells refl 0 0 (lit< tt) (lit< tt))
+      go false false = rw (h ZeroCells refl 0 0 (lit< tt) (lit< tt))
 
   turn-writes : (W : Name → Bool) (i j : ℕ) → W (Temporary 0) ≡ true → W (Temporary 1) ≡ true → ((p : ℕ) → W (SizeBefore i p) ≡ true) → writes W (sizeBeforeTurn (B .n) (B .m) i j) ≡ true
   turn-writes W i j e f g = writes-append W (testOrder i j ∷ []) (loop (B .m) (gainTurn i j)) (test-writes W i j e) (writes-loop W (B .m) (gainTurn i j) (λ p _. rw (f, g p)))
@@ -79,12 +79,12 @@ module _ (B : Book) (sound : Sound B) where
         eqb-same i,
         eqb-same p,
         own .1,
-        keep (among (sizesBefore ∷ temporaries ∷ [])) (loop p (gainTurn i j)) (PoolSize j p) t (writes-loop _ p (gainTurn i j) (λ q _. refl)) refl,
+        keep (among (SizesBefore ∷ Temporaries ∷ [])) (loop p (gainTurn i j)) (PoolSize j p) t (writes-loop _ p (gainTurn i j) (λ q _. refl)) refl,
         keep (λ c. not (same (Temporary 0) c)) (loop p (gainTurn i j)) (Temporary 0) t (writes-loop _ p (gainTurn i j) (λ q _. refl)) refl,
       )
 
-  turn-frame : (i j : ℕ) → writes (among (sizesBefore ∷ temporaries ∷ [])) (sizeBeforeTurn (B .n) (B .m) i j) ≡ true
-  turn-frame i j = turn-writes (among (sizesBefore ∷ temporaries ∷ [])) i j refl refl (λ p. refl)
+  turn-frame : (i j : ℕ) → writes (among (SizesBefore ∷ Temporaries ∷ [])) (sizeBeforeTurn (B .n) (B .m) i j) ≡ true
+  turn-frame i j = turn-writes (among (SizesBefore ∷ Temporaries ∷ [])) i j refl refl (λ p. refl)
 
   -- after k bids: the sizes of those of them that are before bid i
   abbrev Gained : (i k : ℕ) → State → Type 0
@@ -93,15 +93,15 @@ module _ (B : Book) (sound : Sound B) where
   size-before-turn : (i j : ℕ) (t : State) → i < B .n → j < B .n → Gained i j t → Gained i (suc j) (run (sizeBeforeTurn (B .n) (B .m) i j) t)
   unfolding sumTo ahead
   size-before-turn i j t a b g = (
-    holds-keep (tables B) (sizesBefore ∷ temporaries ∷ []) sizeBeforeReads refl (sizeBeforeTurn (B .n) (B .m) i j) (turn-frame i j) t (g .0),
+    holds-keep (tables B) (SizesBefore ∷ Temporaries ∷ []) sizeBeforeReads refl (sizeBeforeTurn (B .n) (B .m) i j) (turn-frame i j) t (g .0),
     λ p l.
         let f : ℕ → ℕ = λ k. on (before B k i) (weight B k p) in
         gain-value i j p l (run (testOrder i j ∷ []) t)
         ∙ rw (
           test-value i j a b t (g .0),
-          keep (among (temporaries ∷ [])) (testOrder i j ∷ []) (SizeBefore i p) t (test-writes (among (temporaries ∷ [])) i j refl) refl,
-          keep (among (temporaries ∷ [])) (testOrder i j ∷ []) (PoolSize j p) t (test-writes (among (temporaries ∷ [])) i j refl) refl,
-          g .0 poolSizes refl j p b l,
+          keep (among (Temporaries ∷ [])) (testOrder i j ∷ []) (SizeBefore i p) t (test-writes (among (Temporaries ∷ [])) i j refl) refl,
+          keep (among (Temporaries ∷ [])) (testOrder i j ∷ []) (PoolSize j p) t (test-writes (among (Temporaries ∷ [])) i j refl) refl,
+          g .0 PoolSizes refl j p b l,
           g .1 p l,
           times-on (before B j i) (weight B j p) (omega (arith, weight-small B sound j p b)),
         )
@@ -113,28 +113,28 @@ module _ (B : Book) (sound : Sound B) where
   size-before-value i p t a l h =
       ap (λ (r : State). r (SizeBefore i p)) (named-run-append (loop (B .m) (sizeBeforeStart i)) (loop (B .n) (sizeBeforeTurn (B .n) (B .m) i)) t)
       ∙ loop-invariant (Gained i) (B .n) (sizeBeforeTurn (B .n) (B .m) i) (run (loop (B .m) (sizeBeforeStart i)) t) (
-        holds-keep (tables B) (sizesBefore ∷ []) sizeBeforeReads refl (loop (B .m) (sizeBeforeStart i)) (writes-loop _ (B .m) (sizeBeforeStart i) (λ q _. refl)) t h,
+        holds-keep (tables B) (SizesBefore ∷ []) sizeBeforeReads refl (loop (B .m) (sizeBeforeStart i)) (writes-loop _ (B .m) (sizeBeforeStart i) (λ q _. refl)) t h,
         λ q b. loop-own (B .m) (sizeBeforeStart i) (SizeBefore i q) t q b (λ k r ne. rw (eqb-same i, ne-eqb k q ne)) .0 ∙ rw (eqb-same i, eqb-same q),
       )
       (λ j r b. size-before-turn i j r a b) .1 p l
 
-  pub size-before-phase : Phase (tables B) sizeBeforeReads sizesBefore (temporaries ∷ []) (loop (B .n) (sizeBeforeBlock (B .n) (B .m)))
-  size-before-phase = fill-rows (tables B) sizeBeforeReads sizesBefore (temporaries ∷ []) refl refl (sizeBeforeBlock (B .n) (B .m))
-      (λ i. writes-append (touches sizesBefore i (temporaries ∷ [])) (loop (B .m) (sizeBeforeStart i)) _ (writes-loop _ (B .m) (sizeBeforeStart i) (λ q _. rw (eqb-same i)))
-      (writes-loop _ (B .n) (sizeBeforeTurn (B .n) (B .m) i) (λ j _. turn-writes (touches sizesBefore i (temporaries ∷ [])) i j refl refl (λ p. rw (eqb-same i)))))
+  pub size-before-phase : Phase (tables B) sizeBeforeReads SizesBefore (Temporaries ∷ []) (loop (B .n) (sizeBeforeBlock (B .n) (B .m)))
+  size-before-phase = fill-rows (tables B) sizeBeforeReads SizesBefore (Temporaries ∷ []) refl refl (sizeBeforeBlock (B .n) (B .m))
+      (λ i. writes-append (touches SizesBefore i (Temporaries ∷ [])) (loop (B .m) (sizeBeforeStart i)) _ (writes-loop _ (B .m) (sizeBeforeStart i) (λ q _. rw (eqb-same i)))
+      (writes-loop _ (B .n) (sizeBeforeTurn (B .n) (B .m) i) (λ j _. turn-writes (touches SizesBefore i (Temporaries ∷ [])) i j refl refl (λ p. rw (eqb-same i)))))
       size-before-value
 
   -- ---- the rank of bids with sums x in cells X, in cell i of family u
 
-  rank-frame : (u i : ℕ) (X : ℕ → Name) → ((S : ℕ) → writes (touches u i (temporaries ∷ subsets ∷ [])) (costTurn (B .m) (at u i 0) S) ≡ true) → writes (touches u i (temporaries ∷ subsets ∷ [])) (constant (at u i 0) greatestPositive ∷ []) ≡ true
-      → writes (touches u i (temporaries ∷ subsets ∷ [])) (rankBlock (B .n) (B .m) X (at u i 0)) ≡ true
+  rank-frame : (u : Family) (i : ℕ) (X : ℕ → Name) → ((S : ℕ) → writes (touches u i (Temporaries ∷ Subsets ∷ [])) (costTurn (B .m) (at u i 0) S) ≡ true) → writes (touches u i (Temporaries ∷ Subsets ∷ [])) (constant (at u i 0) greatestPositive ∷ []) ≡ true
+      → writes (touches u i (Temporaries ∷ Subsets ∷ [])) (rankBlock (B .n) (B .m) X (at u i 0)) ≡ true
   rank-frame u i X turn start =
-      let W : Name → Bool = touches u i (temporaries ∷ subsets ∷ []) in
-      writes-append W (subsetBlocks (B .n) (B .m) X) (costBlock (B .n) (B .m) (at u i 0)) (touches-among u i (subsets ∷ []) (temporaries ∷ subsets ∷ []) refl (subsetBlocks (B .n) (B .m) X) (subsets-frame (B .n) (B .m) X))
+      let W : Name → Bool = touches u i (Temporaries ∷ Subsets ∷ []) in
+      writes-append W (subsetBlocks (B .n) (B .m) X) (costBlock (B .n) (B .m) (at u i 0)) (touches-among u i (Subsets ∷ []) (Temporaries ∷ Subsets ∷ []) refl (subsetBlocks (B .n) (B .m) X) (subsets-frame (B .n) (B .m) X))
       (writes-append W (constant (at u i 0) greatestPositive ∷ []) (loop (2 ^ B .m) (costTurn (B .m) (at u i 0))) start (writes-loop W (2 ^ B .m) (costTurn (B .m) (at u i 0)) (λ S _. turn S)))
 
-  module _ (u i : ℕ) (no-temporary : eqb temporaries u ≡ false) (no-cut : eqb u cuts ≡ false) (no-subset : eqb u subsets ≡ false)
-      (X : ℕ → Name) (clear : (p : ℕ) → among (subsets ∷ []) (X p) ≡ false)
+  module _ (u : Family) (i : ℕ) (no-temporary : eqb (number Temporaries) (number u) ≡ false) (no-cut : eqb (number u) (number Cuts) ≡ false) (no-subset : eqb (number u) (number Subsets) ≡ false)
+      (X : ℕ → Name) (clear : (p : ℕ) → among (Subsets ∷ []) (X p) ≡ false)
       (x : ℕ → ℕ) (small : (p : ℕ) → p < B .m → x p ≤ sizeTotal + quantityLimit) where
     -- where the rank goes
     abbrev d : Name
@@ -146,23 +146,23 @@ module _ (B : Book) (sound : Sound B) where
 
     -- the cuts, and the sums of x over all sets
     abbrev Summed : State → Type 0
-    Summed t = Holds (tables B) (cuts ∷ []) t × ((S : ℕ) → S < 2 ^ B .m → t (Subset S) ≡ subsetSum (B .m) x S)
+    Summed t = Holds (tables B) (Cuts ∷ []) t × ((S : ℕ) → S < 2 ^ B .m → t (Subset S) ≡ subsetSum (B .m) x S)
 
     -- orders that write d and temporaries keep what is summed
-    summed-keep : (l : Block) → writes (among (temporaries ∷ u ∷ [])) l ≡ true → (t : State) → Summed t → Summed (run l t)
+    summed-keep : (l : Block) → writes (among (Temporaries ∷ u ∷ [])) l ≡ true → (t : State) → Summed t → Summed (run l t)
     summed-keep l w t g = (
-      holds-keep (tables B) (temporaries ∷ u ∷ []) (cuts ∷ []) (rw no-cut) l w t (g .0),
-      λ S a. keep (among (temporaries ∷ u ∷ [])) l (Subset S) t w (rw no-subset) ∙ g .1 S a,
+      holds-keep (tables B) (Temporaries ∷ u ∷ []) (Cuts ∷ []) (rw no-cut) l w t (g .0),
+      λ S a. keep (among (Temporaries ∷ u ∷ [])) l (Subset S) t w (rw no-subset) ∙ g .1 S a,
     )
 
     cost-lowers : (S : ℕ) → S < 2 ^ B .m → Lowers Summed d (costTurn (B .m) d S) (cost S)
     cost-lowers S a t g c = (
-      summed-keep (costTurn (B .m) d S) (rw (no-temporary, eqb-same u)) t g,
+      summed-keep (costTurn (B .m) d S) (rw (no-temporary, eqb-same (number u))) t g,
       rw (
         no-temporary,
-        eqb-same u,
+        eqb-same (number u),
         eqb-same i,
-        g .0 cuts refl S 0 a (lit< tt),
+        g .0 Cuts refl S 0 a (lit< tt),
         g .1 (complement (B .m) S) (omega arith),
         subset-outside (B .m) x S a,
         plus-small (cut B S) (sumTo (B .m) (λ p. on (not (member S p)) (x p))) (omega (arith, set-cost-small B sound x small S)),
@@ -170,50 +170,50 @@ module _ (B : Book) (sound : Sound B) where
           (min-small (t d) (cost S) c (set-cost-small B sound x small S)),
     )
 
-    rank-value : (s : State) → Holds (tables B) (cuts ∷ []) s → ((p : ℕ) → p < B .m → s (X p) ≡ x p) → run (rankBlock (B .n) (B .m) X d) s d ≡ rank B x
+    rank-value : (s : State) → Holds (tables B) (Cuts ∷ []) s → ((p : ℕ) → p < B .m → s (X p) ≡ x p) → run (rankBlock (B .n) (B .m) X d) s d ≡ rank B x
     unfolding rank
     rank-value s h e =
         let r : State = run (subsetBlocks (B .n) (B .m) X) s in
         let g : Summed r = (
-          holds-keep (tables B) (subsets ∷ []) (cuts ∷ []) refl (subsetBlocks (B .n) (B .m) X) (subsets-frame (B .n) (B .m) X) s h,
+          holds-keep (tables B) (Subsets ∷ []) (Cuts ∷ []) refl (subsetBlocks (B .n) (B .m) X) (subsets-frame (B .n) (B .m) X) s h,
           subset-sums (B .m) X clear x (omega (arith, sum-limit (B .m) poolLimit x (sizeTotal + quantityLimit) (sound .pools) small)) s e,
         ) in
         let t : State = run (constant d greatestPositive ∷ []) r in
-        let f : t d ≡ greatestPositive = rw (eqb-same u, eqb-same i) in
+        let f : t d ≡ greatestPositive = rw (eqb-same (number u), eqb-same i) in
         ap (λ (v : State). v d) (named-run-append (subsetBlocks (B .n) (B .m) X) (costBlock (B .n) (B .m) d) s)
-        ∙ lower Summed d (2 ^ B .m) (costTurn (B .m) d) cost cost-lowers t (summed-keep (constant d greatestPositive ∷ []) (rw (no-temporary, eqb-same u)) r g) (omega arith) .1
+        ∙ lower Summed d (2 ^ B .m) (costTurn (B .m) d) cost cost-lowers t (summed-keep (constant d greatestPositive ∷ []) (rw (no-temporary, eqb-same (number u))) r g) (omega arith) .1
         ∙ ap (λ (v : ℕ). minTo v (2 ^ B .m) cost) f
 
-  pub rank-before-phase : Phase (tables B) (sizesBefore ∷ cuts ∷ []) ranksBefore (temporaries ∷ subsets ∷ []) (loop (B .n) (λ i. rankBlock (B .n) (B .m) (SizeBefore i) (RankBefore i)))
-  rank-before-phase = fill-column (tables B) (sizesBefore ∷ cuts ∷ []) ranksBefore (temporaries ∷ subsets ∷ []) refl refl refl (λ i. rankBlock (B .n) (B .m) (SizeBefore i) (RankBefore i))
-      (λ i. rank-frame ranksBefore i (SizeBefore i) (λ S. rw (eqb-same i)) (rw (eqb-same i)))
+  pub rank-before-phase : Phase (tables B) (SizesBefore ∷ Cuts ∷ []) RanksBefore (Temporaries ∷ Subsets ∷ []) (loop (B .n) (λ i. rankBlock (B .n) (B .m) (SizeBefore i) (RankBefore i)))
+  rank-before-phase = fill-column (tables B) (SizesBefore ∷ Cuts ∷ []) RanksBefore (Temporaries ∷ Subsets ∷ []) refl refl refl (λ i. rankBlock (B .n) (B .m) (SizeBefore i) (RankBefore i))
+      (λ i. rank-frame RanksBefore i (SizeBefore i) (λ S. rw (eqb-same i)) (rw (eqb-same i)))
       (λ i t l h.
-      rank-value ranksBefore i refl refl refl (SizeBefore i) (λ p. refl) (ahead B i) (λ p _. omega (arith, ahead-small B sound i p)) t
-      (holds-part (tables B) (sizesBefore ∷ cuts ∷ []) (cuts ∷ []) refl t h) (λ p b. h sizesBefore refl i p l b))
+      rank-value RanksBefore i refl refl refl (SizeBefore i) (λ p. refl) (ahead B i) (λ p _. omega (arith, ahead-small B sound i p)) t
+      (holds-part (tables B) (SizesBefore ∷ Cuts ∷ []) (Cuts ∷ []) refl t h) (λ p b. h SizesBefore refl i p l b))
 
-  pub size-with-phase : Phase (tables B) (sizesBefore ∷ poolSizes ∷ []) sizesWith [] (loop (B .n) (λ i. loop (B .m) (sizeWithBlock i)))
+  pub size-with-phase : Phase (tables B) (SizesBefore ∷ PoolSizes ∷ []) SizesWith [] (loop (B .n) (λ i. loop (B .m) (sizeWithBlock i)))
   unfolding reach
-  size-with-phase = fill-cells (tables B) (sizesBefore ∷ poolSizes ∷ []) sizesWith [] refl refl sizeWithBlock (λ i p. rw (eqb-same i, eqb-same p))
-      (λ i p t l b h. rw (eqb-same i, eqb-same p, h sizesBefore refl i p l b, h poolSizes refl i p l b)
+  size-with-phase = fill-cells (tables B) (SizesBefore ∷ PoolSizes ∷ []) SizesWith [] refl refl sizeWithBlock (λ i p. rw (eqb-same i, eqb-same p))
+      (λ i p t l b h. rw (eqb-same i, eqb-same p, h SizesBefore refl i p l b, h PoolSizes refl i p l b)
       (plus-small (ahead B i p) (weight B i p) (omega (arith, ahead-small B sound i p, weight-small B sound i p l))))
 
-  pub rank-with-phase : Phase (tables B) (sizesWith ∷ cuts ∷ []) ranksWith (temporaries ∷ subsets ∷ []) (loop (B .n) (λ i. rankBlock (B .n) (B .m) (SizeWith i) (RankWith i)))
-  rank-with-phase = fill-column (tables B) (sizesWith ∷ cuts ∷ []) ranksWith (temporaries ∷ subsets ∷ []) refl refl refl (λ i. rankBlock (B .n) (B .m) (SizeWith i) (RankWith i))
-      (λ i. rank-frame ranksWith i (SizeWith i) (λ S. rw (eqb-same i)) (rw (eqb-same i)))
+  pub rank-with-phase : Phase (tables B) (SizesWith ∷ Cuts ∷ []) RanksWith (Temporaries ∷ Subsets ∷ []) (loop (B .n) (λ i. rankBlock (B .n) (B .m) (SizeWith i) (RankWith i)))
+  rank-with-phase = fill-column (tables B) (SizesWith ∷ Cuts ∷ []) RanksWith (Temporaries ∷ Subsets ∷ []) refl refl refl (λ i. rankBlock (B .n) (B .m) (SizeWith i) (RankWith i))
+      (λ i. rank-frame RanksWith i (SizeWith i) (λ S. rw (eqb-same i)) (rw (eqb-same i)))
       (λ i t l h.
-      rank-value ranksWith i refl refl refl (SizeWith i) (λ p. refl) (reach B i) (λ p _. reach-small B sound i p l) t
-      (holds-part (tables B) (sizesWith ∷ cuts ∷ []) (cuts ∷ []) refl t h) (λ p b. h sizesWith refl i p l b))
+      rank-value RanksWith i refl refl refl (SizeWith i) (λ p. refl) (reach B i) (λ p _. reach-small B sound i p l) t
+      (holds-part (tables B) (SizesWith ∷ Cuts ∷ []) (Cuts ∷ []) refl t h) (λ p b. h SizesWith refl i p l b))
 
   -- ---- the amounts
 
-  pub use-phase : Phase (tables B) (ranksBefore ∷ ranksWith ∷ []) uses [] (loop (B .n) useBlock)
+  pub use-phase : Phase (tables B) (RanksBefore ∷ RanksWith ∷ []) Uses [] (loop (B .n) useBlock)
   unfolding usedAmount
-  use-phase = fill-column (tables B) (ranksBefore ∷ ranksWith ∷ []) uses [] refl refl refl useBlock (λ i. rw (eqb-same i))
-      (λ i t l h. rw (eqb-same i, h ranksBefore refl i 0 l (lit< tt), h ranksWith refl i 0 l (lit< tt))
+  use-phase = fill-column (tables B) (RanksBefore ∷ RanksWith ∷ []) Uses [] refl refl refl useBlock (λ i. rw (eqb-same i))
+      (λ i t l h. rw (eqb-same i, h RanksBefore refl i 0 l (lit< tt), h RanksWith refl i 0 l (lit< tt))
       (minus-small (rank B (reach B i)) (rank B (ahead B i)) (omega (arith, rank-small B sound (reach B i))) (omega (arith, used-and-rank B sound i l))))
 
-  pub amount-phase : Phase (tables B) (sides ∷ sizes ∷ uses ∷ []) amounts (temporaries ∷ []) (loop (B .n) amountBlock)
+  pub amount-phase : Phase (tables B) (Sides ∷ Sizes ∷ Uses ∷ []) Amounts (Temporaries ∷ []) (loop (B .n) amountBlock)
   unfolding acceptedAmount
-  amount-phase = fill-column (tables B) (sides ∷ sizes ∷ uses ∷ []) amounts (temporaries ∷ []) refl refl refl amountBlock (λ i. rw (eqb-same i))
-      (λ i t l h. rw (eqb-same i, h sizes refl i 0 l (lit< tt), h uses refl i 0 l (lit< tt), h sides refl i 0 l (lit< tt))
+  amount-phase = fill-column (tables B) (Sides ∷ Sizes ∷ Uses ∷ []) Amounts (Temporaries ∷ []) refl refl refl amountBlock (λ i. rw (eqb-same i))
+      (λ i t l h. rw (eqb-same i, h Sizes refl i 0 l (lit< tt), h Uses refl i 0 l (lit< tt), h Sides refl i 0 l (lit< tt))
       (accept-small (purchase B i) (size B i) (usedAmount B i) (used-size B sound i l) (sound .size-small i l)))

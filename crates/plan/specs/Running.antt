@@ -13,10 +13,10 @@ use Rattle.definitions.specs.Arithmetic.{sumTo}
 use Rattle.laws.specs.Sum.{sum-prefix}
 use Rattle.laws.specs.Extremes.{minTo, maxTo, min-le-start}
 use Rattle.laws.specs.Tests.{Eq?, same, diff, eq?}
-use Rattle.plan.specs.Orders.{OrderOn, constant, sum, difference, product, less, Name, State, run}
+use Rattle.plan.specs.Orders.{OrderOn, constant, sum, difference, product, less, State, run}
 use Rattle.plan.specs.Residues.{plus-small}
 use Rattle.plan.specs.Loops.{loop, loop-invariant, among, writes, keep, eqb-same, same-self}
-use Rattle.plan.specs.Names.{subsets, Temporary, Subset}
+use Rattle.plan.specs.Names.{Name, Subsets, Temporary, Subset}
 use Rattle.plan.specs.Subsets.{subsetSum, lowest, others, lowest-below, others-below, lowest-sum, subset-empty, subset-le}
 
 -- ---- the four orders of a running minimum and of a running maximum
@@ -106,21 +106,21 @@ subsetOrder false m X S = sum (Subset S) (Subset (others m S)) (X (lowest m S))
 abbrev pub subsetBlock : (m : ℕ) → (ℕ → Name) → ℕ → List (OrderOn Name)
 subsetBlock m X S = subsetOrder (eqb S 0) m X S ∷ []
 
-pub subset-frame : (m : ℕ) (X : ℕ → Name) (S : ℕ) → writes (among (subsets ∷ [])) (subsetBlock m X S) ≡ true
+pub subset-frame : (m : ℕ) (X : ℕ → Name) (S : ℕ) → writes (among (Subsets ∷ [])) (subsetBlock m X S) ≡ true
 subset-frame m X S = go (eqb S 0)
   where
-    go : (t : Bool) → writes (among (subsets ∷ [])) (subsetOrder t m X S ∷ []) ≡ true
+    go : (t : Bool) → writes (among (Subsets ∷ [])) (subsetOrder t m X S ∷ []) ≡ true
     go true = refl
     go false = refl
 
-module _ (m : ℕ) (X : ℕ → Name) (clear : (p : ℕ) → among (subsets ∷ []) (X p) ≡ false) (x : ℕ → ℕ) (small : sumTo m x < modulus) where
+module _ (m : ℕ) (X : ℕ → Name) (clear : (p : ℕ) → among (Subsets ∷ []) (X p) ≡ false) (x : ℕ → ℕ) (small : sumTo m x < modulus) where
   -- the cells X hold x, and the sums of the first K sets are made
   abbrev Known : ℕ → State → Type 0
   Known K t = ((p : ℕ) → p < m → t (X p) ≡ x p) × ((S : ℕ) → S < K → t (Subset S) ≡ subsetSum m x S)
 
   subset-turn : (S : ℕ) (t : State) → S < 2 ^ m → Known S t → Known (suc S) (run (subsetBlock m X S) t)
   subset-turn S t a k = (
-    λ p l. keep (among (subsets ∷ [])) (subsetBlock m X S) (X p) t (subset-frame m X S) (clear p) ∙ k .0 p l,
+    λ p l. keep (among (Subsets ∷ [])) (subsetBlock m X S) (X p) t (subset-frame m X S) (clear p) ∙ k .0 p l,
     λ R l. go R (eq-or-lt-of-le (le-of-suc-le-suc l)) (eq? S 0),
   )
     where

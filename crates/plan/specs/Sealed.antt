@@ -16,9 +16,9 @@ use Rattle.definitions.specs.Sheet.{sealedSheet, firstResult}
 use Rattle.definitions.specs.Machine.{cell}
 use Rattle.laws.specs.Tests.{Lt?, less, more, lt?}
 use Rattle.laws.specs.AcceptedBook.{Sound}
-use Rattle.plan.specs.Orders.{at, State}
+use Rattle.plan.specs.Orders.{State}
 use Rattle.plan.specs.Holds.{Holds, holds-add}
-use Rattle.plan.specs.Names.{bids, capacities, zeroCells}
+use Rattle.plan.specs.Names.{at, Bids, Capacities, ZeroCells}
 use Rattle.plan.specs.Values.{tables, bidCell}
 use Rattle.plan.specs.Plan.{cellOf}
 use Rattle.plan.specs.Whole.{inputs}
@@ -99,14 +99,14 @@ module _ (B : Book) where
     at-cell : {c : ℕ} (k : ℕ) → c ≡ k → cell (sealedSheet B) c ≡ cell (sealedSheet B) k
     at-cell k e = ap (λ (c : ℕ). cell (sealedSheet B) c) e
 
-    bid-cells : (i j : ℕ) → i < B .n → j < bidNumbers → sealedState (at bids i j) ≡ bidCell B i j
+    bid-cells : (i j : ℕ) → i < B .n → j < bidNumbers → sealedState (at Bids i j) ≡ bidCell B i j
     unfolding sumTo
     bid-cells i zero a b = at-cell (bidNumbers * i) (omega arith) ∙ sealed-bid (bidNumbers * i) (omega (arith, sound .bid-table))
     bid-cells i (suc zero) a b = at-cell (bidNumbers * i + 1) (omega arith) ∙ sealed-bid (bidNumbers * i + 1) (omega (arith, sound .bid-table))
     bid-cells i (suc (suc zero)) a b = at-cell (bidNumbers * i + 2) (omega arith) ∙ sealed-bid (bidNumbers * i + 2) (omega (arith, sound .bid-table))
     bid-cells i (suc (suc (suc j))) a b = absurd (omega arith)
 
-    capacity-cells : (a b : ℕ) → a < B .m → b < B .m → sealedState (at capacities a b) ≡ capacity B a b
+    capacity-cells : (a b : ℕ) → a < B .m → b < B .m → sealedState (at Capacities a b) ≡ capacity B a b
     unfolding sumTo
     capacity-cells a b x y =
         at-cell (length (B .bids) + (a * B .m + b)) (omega (arith, sound .bid-table))
@@ -116,6 +116,6 @@ module _ (B : Book) where
     pub sealed-inputs : Holds (tables B) inputs sealedState
     unfolding sumTo
     sealed-inputs =
-        holds-add (tables B) bids (capacities ∷ zeroCells ∷ []) sealedState bid-cells
-        (holds-add (tables B) capacities (zeroCells ∷ []) sealedState capacity-cells
-        (holds-add (tables B) zeroCells [] sealedState (λ i j a b. sealed-zero (cellOf (B .n) (B .m) (at zeroCells i j)) (omega arith)) (λ t e. absurd {0} (false≢true e))))
+        holds-add (tables B) Bids (Capacities ∷ ZeroCells ∷ []) sealedState bid-cells
+        (holds-add (tables B) Capacities (ZeroCells ∷ []) sealedState capacity-cells
+        (holds-add (tables B) ZeroCells [] sealedState (λ i j a b. sealed-zero (cellOf (B .n) (B .m) (at ZeroCells i j)) (omega arith)) (λ t e. absurd {0} (false≢true e))))

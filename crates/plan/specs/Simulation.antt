@@ -8,7 +8,8 @@ use native.Mathlib.Omega.{arith}
 use lib.ListN.{length, set, length-set}
 use lib.Seq.{getD-set-same, getD-set-other}
 use Rattle.definitions.specs.Machine.{cell, stepOf, runOf}
-use Rattle.plan.specs.Orders.{OrderOn, constant, operate, target, outcome, result, orderOf, step-is, renamed, Name, same, State, update, step, run}
+use Rattle.plan.specs.Orders.{OrderOn, constant, operate, target, outcome, result, orderOf, step-is, renamed, State, update, step, run}
+use Rattle.plan.specs.Names.{Name, same}
 use Rattle.plan.specs.Loops.{same-self, same-equal}
 use Rattle.plan.specs.Entries.{All}
 

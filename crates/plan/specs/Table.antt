@@ -5,8 +5,8 @@ use mathlib.Core.List.{List, [], _∷_, _++_}
 use Prim.Native.Nat.{ℕ, _+_, _*_, _%_, _/_, _^_}
 use native.Mathlib.Omega.{arith}
 use lib.ListN.{length}
-use Rattle.plan.specs.Orders.{OrderOn, Name}
-use Rattle.plan.specs.Names.{Demand, SizeBefore, RankBefore, SizeWith, RankWith, Placement}
+use Rattle.plan.specs.Orders.{OrderOn}
+use Rattle.plan.specs.Names.{Name, Demand, SizeBefore, RankBefore, SizeWith, RankWith, Placement}
 use Rattle.plan.specs.Running.{subsetBlock}
 use Rattle.plan.specs.Blocks.{Block, unitBlock, shiftBlock, poolNumberBlock, sideBlock, sizeBlock, positivePriceBlock, doubleBlock, keyBlock, nextBlock, membershipBlock, poolSizeBlock, demandStart, demandTurn, cutStart, cutTurn, testOrder, gainTurn, sizeBeforeStart, costStart, costTurn, sizeWithBlock, useBlock, amountBlock, placementStart, placementTurn, slackBlock, restStart, restTurn, flowBlock, takeTurn, offerBlock, highestOfferStart, highestOfferTurn, priceBlock, zeroBlock}
 use Rattle.plan.specs.Loops.{loop}

@@ -1,14 +1,12 @@
 -- What each family of cells holds in the end: a number of the book or one of the theory's closed forms (`valueOf`).
 use Prim.Native.Nat.{ℕ, zero, suc, _+_, _*_}
-use mathlib.Core.List.{[], _∷_}
 use lib.Dec.{eqb}
-use lib.ListN.{getD}
 use Rattle.definitions.specs.Limits.{priceLimit}
 use Rattle.definitions.specs.Arithmetic.{on, residue}
 use Rattle.definitions.specs.Book.{Book, pool, price, quantity, size, capacity}
 use Rattle.laws.specs.AcceptedBook.{poolIndex}
 use Rattle.plan.specs.Holds.{Tables}
-use Rattle.plan.specs.Names.{rowsOf, columnsOf}
+use Rattle.plan.specs.Names.{Family, Bids, Capacities, Amounts, Flows, Prices, Temporaries, ZeroCells, Units, Shifts, PoolNumbers, Sides, Sizes, PositivePrices, Doubles, Keys, Nexts, Memberships, PoolSizes, Demands, Subsets, Cuts, SizesBefore, RanksBefore, SizesWith, RanksWith, Uses, Placements, Slacks, Offers, HighestOffers, rowsOf, columnsOf}
 pub use Rattle.theory.specs.ClosedForms.{rate, side, key, weight, takenOf, lineFlow, closedPrice, closedPresence}
 unfoldable pub use Rattle.theory.specs.ClosedForms.{demand, cut, ahead, reach, rank, usedAmount, acceptedAmount, placement, slack, restOf, flowOf, slackAfter, offer, peak}
 
@@ -24,17 +22,38 @@ module _ (B : Book) where
   priceCells p zero = closedPrice B p
   priceCells p (suc j) = closedPresence B p
 
-  -- what each family holds in the end, in the families' order; temporaries and sums over subsets are not kept
-  abbrev pub valueOf : (t i j : ℕ) → ℕ
-  valueOf t =
-      getD
-      ((λ i j. bidCell i j) ∷ (λ a b. capacity B a b) ∷ (λ i j. acceptedAmount B i) ∷ (λ l j. lineFlow B l) ∷ (λ p j. priceCells p j)
-      ∷ (λ i j. 0) ∷ (λ i j. 0) ∷ (λ i j. 1) ∷ (λ i j. suc priceLimit) ∷ (λ p j. suc p)
-      ∷ (λ i j. side B i) ∷ (λ i j. size B i) ∷ (λ i j. rate B i) ∷ (λ i j. 2 * rate B i) ∷ (λ i j. key B i) ∷ (λ i j. 2 * rate B i + 1)
-      ∷ (λ i p. on (eqb (poolIndex B i) p) 1) ∷ (λ i p. weight B i p) ∷ (λ p j. demand B p) ∷ (λ S j. 0) ∷ (λ S j. cut B S)
-      ∷ (λ i p. ahead B i p) ∷ (λ i j. rank B (ahead B i)) ∷ (λ i p. reach B i p) ∷ (λ i j. rank B (reach B i)) ∷ (λ i j. usedAmount B i)
-      ∷ (λ p j. placement B p) ∷ (λ S j. slack B S) ∷ (λ i j. offer B i) ∷ (λ p j. peak B p) ∷ [])
-      t (λ i j. 0)
+  -- what each family holds in the end; temporaries and sums over subsets are not kept
+  abbrev pub valueOf : Family → (i j : ℕ) → ℕ
+  valueOf Bids i j = bidCell i j
+  valueOf Capacities a b = capacity B a b
+  valueOf Amounts i j = acceptedAmount B i
+  valueOf Flows l j = lineFlow B l
+  valueOf Prices p j = priceCells p j
+  valueOf Temporaries k j = 0
+  valueOf ZeroCells i j = 0
+  valueOf Units i j = 1
+  valueOf Shifts i j = suc priceLimit
+  valueOf PoolNumbers p j = suc p
+  valueOf Sides i j = side B i
+  valueOf Sizes i j = size B i
+  valueOf PositivePrices i j = rate B i
+  valueOf Doubles i j = 2 * rate B i
+  valueOf Keys i j = key B i
+  valueOf Nexts i j = 2 * rate B i + 1
+  valueOf Memberships i p = on (eqb (poolIndex B i) p) 1
+  valueOf PoolSizes i p = weight B i p
+  valueOf Demands p j = demand B p
+  valueOf Subsets S j = 0
+  valueOf Cuts S j = cut B S
+  valueOf SizesBefore i p = ahead B i p
+  valueOf RanksBefore i j = rank B (ahead B i)
+  valueOf SizesWith i p = reach B i p
+  valueOf RanksWith i j = rank B (reach B i)
+  valueOf Uses i j = usedAmount B i
+  valueOf Placements p j = placement B p
+  valueOf Slacks S j = slack B S
+  valueOf Offers i j = offer B i
+  valueOf HighestOffers p j = peak B p
 
   -- the families with their rows, columns and numbers, for book B
   abbrev pub tables : Tables

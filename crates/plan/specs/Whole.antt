@@ -1,12 +1,11 @@
 -- The whole work on names, phase after phase of the table: from the inputs to the results (`work-done`).
 use mathlib.Core.Path.{refl}
 use mathlib.Core.List.{List, [], _∷_}
-use Prim.Native.Nat.{ℕ}
 use Rattle.definitions.specs.Book.{Book}
 use Rattle.laws.specs.AcceptedBook.{Sound}
 use Rattle.plan.specs.Orders.{State, run}
 use Rattle.plan.specs.Holds.{Holds, Step, then, phase-step, step-part}
-use Rattle.plan.specs.Names.{bids, capacities, amounts, flows, prices, zeroCells}
+use Rattle.plan.specs.Names.{Family, Bids, Capacities, Amounts, Flows, Prices, ZeroCells}
 use Rattle.plan.specs.Values.{tables}
 use Rattle.plan.specs.Bids.{unit-phase, shift-phase, pool-number-phase, side-phase, size-phase, positive-price-phase, double-phase, key-phase, next-phase, membership-phase, pool-size-phase}
 use Rattle.plan.specs.Cuts.{demand-phase, cut-phase}
@@ -17,12 +16,12 @@ use Rattle.plan.specs.Phased.{flat}
 use Rattle.plan.specs.Table.{work}
 
 -- what a sealed sheet holds
-abbrev pub inputs : List ℕ
-inputs = bids ∷ capacities ∷ zeroCells ∷ []
+abbrev pub inputs : List Family
+inputs = Bids ∷ Capacities ∷ ZeroCells ∷ []
 
 -- what the work leaves on it
-abbrev pub outputs : List ℕ
-outputs = bids ∷ capacities ∷ amounts ∷ flows ∷ prices ∷ []
+abbrev pub outputs : List Family
+outputs = Bids ∷ Capacities ∷ Amounts ∷ Flows ∷ Prices ∷ []
 
 module _ (B : Book) (sound : Sound B) where
   all-steps : Step (tables B) inputs outputs (flat (work (B .n) (B .m)))

@@ -19,11 +19,11 @@ subset-count-requires c κs = search needs
 sets : (c : tie.After-subset-count) → c .subset-count .result ≡ 2 ^ (c .before .before .args .m)
 sets c = subsets-within (c .subset-count .ensures .0) (omega arith)
 
-sub-t10 : tie.Need-sub-t10
-sub-t10 c = omega (arith, sets c)
+sub-last : tie.Need-sub-last
+sub-last c = omega (arith, sets c)
 
-sub-t11 : tie.Need-sub-t11
-sub-t11 c = omega (arith, sets c)
+sub-rest : tie.Need-sub-rest
+sub-rest c = omega (arith, sets c)
 
 returns : tie.Need-returns
 returns c =
@@ -48,8 +48,8 @@ cost-turn-spec =
     tie.close
     (tie.spec
     subset-count-requires
-    sub-t10
-    sub-t11
+    sub-last
+    sub-rest
     returns
     sub-lowered-order
     lowered-order-requires

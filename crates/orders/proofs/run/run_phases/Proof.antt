@@ -3,7 +3,8 @@ use mathlib.Core.Path.{sym, ap, _∙_}
 use mathlib.Core.List.{List}
 use Prim.Native.Nat.{ℕ, _-_}
 use native.Mathlib.Omega.{arith}
-use Rattle.plan.specs.Orders.{OrderOn, Name}
+use Rattle.plan.specs.Orders.{OrderOn}
+use Rattle.plan.specs.Names.{Name}
 use Rattle.plan.specs.Loops.{loop}
 use Rattle.plan.specs.Phased.{allRows, flat-loop, phaseIn}
 use Rattle.plan.specs.Table.{phaseAt, phaseCount, table, table-length}

@@ -5,7 +5,8 @@ use Prim.Native.Nat.{ℕ, _-_, _<_}
 use native.Mathlib.Omega.{arith}
 use lib.ListN.{length}
 use borrow.Author.Needs.{needs}
-use Rattle.plan.specs.Orders.{OrderOn, Name}
+use Rattle.plan.specs.Orders.{OrderOn}
+use Rattle.plan.specs.Names.{Name}
 use Rattle.plan.specs.Loops.{loop}
 use Rattle.plan.specs.Phased.{partAt, stretch, row-loop}
 use Rattle.plan.specs.Table.{phaseAt}

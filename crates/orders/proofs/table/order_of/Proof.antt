@@ -11,21 +11,21 @@ use Rattle.orders.specs.Shaped.{past, known-place, known-order, first-tu
 use Rattle.orders.proofs.table.order_of.Statement.{statement}
 use Rattle.orders.proofs.table.order_of.Tie as tie
 
-cast-t11 : tie.Need-cast-t11
-cast-t11 c = search needs
-
-add-t12 : tie.Need-add-t12
-add-t12 c = search needs
+cast-t13 : tie.Need-cast-t13
+cast-t13 c = search needs
 
 add-t14 : tie.Need-add-t14
+add-t14 c = search needs
+
+add-t17 : tie.Need-add-t17
 unfolding phaseAt table work
-add-t14 c =
+add-t17 c =
     let a = c .before .args in
     omega (arith, known-place (a .n) (a .m) (a .k) 2 (a .i) (a .q) (a .j) (a .r) (c .match .keys3) (c .before .pre .1 .1 .1) .row)
 
-cast-t15 : tie.Need-cast-t15
+cast-t18 : tie.Need-cast-t18
 unfolding phaseAt table work
-cast-t15 c =
+cast-t18 c =
     let a = c .before .args in
     omega (arith, known-place (a .n) (a .m) (a .k) 2 (a .i) (a .q) (a .j) (a .r) (c .match .keys3) (c .before .pre .1 .1 .1) .row)
 
@@ -279,10 +279,10 @@ pub order-of-spec : {M : Type 1} → statement M
 order-of-spec =
     tie.close
     (tie.spec
-    cast-t11
-    add-t12
+    cast-t13
     add-t14
-    cast-t15
+    add-t17
+    cast-t18
     size-order-requires
     demands-requires
     cuts-requires

@@ -3,14 +3,15 @@ use mathlib.Core.Path.{refl, ap, _∙_}
 use Prim.Native.Nat.{ℕ}
 use native.Mathlib.Omega.{arith}
 use borrow.Author.Needs.{needs}
-use Rattle.plan.specs.Orders.{at}
+use Rattle.plan.specs.declared.Family.{Family}
+use Rattle.plan.specs.Names.{at}
 use Rattle.plan.specs.Table.{Phase, rankPhase}
 use Rattle.orders.specs.Shaped.{sum-at, one-of, in-part, of-part}
 use Rattle.orders.proofs.table.ranks.Statement.{statement}
 use Rattle.orders.proofs.table.ranks.Tie as tie
 
 -- the phase of the function's arguments
-abbrev here : (n m t u : ℕ) → Phase
+abbrev here : (n m : ℕ) (t u : Family) → Phase
 here n m t u = rankPhase n m (at t) (λ x. at u x 0)
 
 lowest-pool-requires : tie.Need-lowest-pool-requires
