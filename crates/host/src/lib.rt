@@ -13,7 +13,7 @@ use definitions::Verdict;
 use definitions::is_accepted;
 use definitions::number;
 use judging::judge_counts;
-use position::Plan;
+use orders::Plan;
 use writer::write_plan;
 
 // How many bytes one number takes, and the writer's three.

@@ -26,7 +26,7 @@ use Rattle.plan.specs.Plan.{cellOf, plan}
 use Rattle.plan.specs.List.{plan-orders}
 use Rattle.orders.specs.declared.names.NamedOrder.{NamedOrder}
 use Rattle.orders.specs.Walk.{named, namedOf, numberedOf}
-use Rattle.orders.specs.Shaped.{InPhase, orderIn}
+use Rattle.orders.specs.Shaped.{InPhase, orderIn, flatIn, flat-order}
 
 -- ---- a plan's run on any slice
 
@@ -135,8 +135,8 @@ module _ (n m : ℕ) where
 
   -- one order of a phase, as the code makes, numbers and runs it
   pub next-order : (p : Phase) (i q j r : ℕ) → InPhase p i q j r → (start s t : List ℕ) (o : NamedOrder) (order : Order)
-      → Done (partAt p q .block i j) start s r → namedOf o ≡ orderIn p i q j r → order ≡ numberedOf n m o → t ≡ stepped s order
+      → Done (partAt p q .block i j) start s r → o ≡ flatIn p i q j r → order ≡ numberedOf n m (namedOf o) → t ≡ stepped s order
       → Done (partAt p q .block i j) start t (r + 1)
   unfolding numberedOf orderIn named
   next-order p i q j r place start s t o order h e f g =
-      done-one (partAt p q .block i j) start s t r (namedOf o) h (omega (arith, place .place, partAt p q .fair i j)) e (g ∙ ap (stepped s) f)
+      done-one (partAt p q .block i j) start s t r (namedOf o) h (omega (arith, place .place, partAt p q .fair i j)) (flat-order p i q j r o e) (g ∙ ap (stepped s) f)

@@ -8,6 +8,7 @@ use native.Mathlib.Omega.{arith}
 use lib.ListN.{length, getD}
 use Rattle.definitions.specs.Arithmetic.{sumTo}
 use Rattle.definitions.specs.Limits.{bidLimit, poolLimit, cellCount}
+use Rattle.laws.specs.Sizes.{Counts}
 use Rattle.plan.specs.Orders.{OrderOn, constant}
 use Rattle.plan.specs.Names.{Name, ZeroCell}
 use Rattle.plan.specs.Entries.{all-at}
@@ -17,7 +18,8 @@ use Rattle.plan.specs.Blocks.{cutTurn}
 use Rattle.plan.specs.Subsets.{lowest}
 use Rattle.orders.specs.declared.table.Columns.{Columns}
 use Rattle.orders.specs.declared.table.Shape.{Shape}
-use Rattle.orders.specs.Walk.{named, subset-lowest}
+use Rattle.orders.specs.declared.names.NamedOrder.{NamedOrder}
+use Rattle.orders.specs.Walk.{flatOf, namedOf, named-flat, named, made, subset-lowest}
 use Rattle.plan.specs.Phased.{PartOf, partAt, partSize, rowSize, phaseIn, Has, has-here, in-even, block-each, even-length}
 use Rattle.plan.specs.Table.{Phase, cutPhase, table, phaseAt, phaseCount, table-length}
 use Rattle.plan.specs.Plan.{PlacedOrder, table-placed}
@@ -137,22 +139,31 @@ pub record InPhase (p : Phase) (i q j r : ℕ) : Type 0 where
   pub column : j < partAt p q .columns
   pub place : r < partAt p q .turn
 
--- the order there; shut, so that a proof need not write the place again
+-- the order there
 unfoldable pub orderIn : Phase → (i q j r : ℕ) → OrderOn Name
 orderIn p i q j r = named (partAt p q .block i j) r
+
+-- the same, flat; shut, so that a proof need not write the place again
+unfoldable pub flatIn : Phase → (i q j r : ℕ) → NamedOrder
+flatIn p i q j r = made (partAt p q .block i j) r
+
+-- from its numbers
+pub flat-order : (p : Phase) (i q j r : ℕ) (o : NamedOrder) → o ≡ flatIn p i q j r → namedOf o ≡ orderIn p i q j r
+unfolding flatIn orderIn made named
+flat-order p i q j r o e = ap namedOf e ∙ named-flat (getD (partAt p q .block i j) r (constant ZeroCell 0))
 
 -- in part Q, known by an equation
 pub in-part : (p : Phase) (i q Q j r : ℕ) → q ≡ Q → InPhase p i q j r → (j < partAt p Q .columns) × (r < partAt p Q .turn)
 in-part p i q Q j r e h = (rw e at (h .column), rw e at (h .place))
 
-pub of-part : (p : Phase) (i q Q j r : ℕ) → q ≡ Q → named (partAt p Q .block i j) r ≡ orderIn p i q j r
-unfolding orderIn
+pub of-part : (p : Phase) (i q Q j r : ℕ) → q ≡ Q → made (partAt p Q .block i j) r ≡ flatIn p i q j r
+unfolding flatIn
 of-part p i q Q j r e = rw e
 
 -- the only order of part Q
 pub one-of : (p : Phase) (i q Q j r : ℕ) → q ≡ Q → InPhase p i q j r → partAt p Q .turn ≡ 1
-    → getD (partAt p Q .block i j) 0 (constant ZeroCell 0) ≡ orderIn p i q j r
-unfolding orderIn named
+    → flatOf (getD (partAt p Q .block i j) 0 (constant ZeroCell 0)) ≡ flatIn p i q j r
+unfolding flatIn made
 one-of p i q Q j r e h f =
     let r0 : r ≡ 0 = omega (arith, in-part p i q Q j r e h .1) in
     rw (e, r0)
@@ -160,30 +171,31 @@ one-of p i q Q j r e h f =
 -- a part that sums over subsets of the cells X: the code knows the cell of the lowest pool
 pub sum-at : (p : Phase) (i q Q j r m : ℕ) (X : ℕ → Name) → q ≡ Q → InPhase p i q j r → partAt p Q .turn ≡ 1
     → partAt p Q .block i j ≡ subsetBlock m X j
-    → (o : OrderOn Name) (c : Name) → o ≡ named (subsetBlock m (λ _. c) j) 0 → c ≡ X (lowest m j) → o ≡ orderIn p i q j r
-unfolding named
+    → (o : NamedOrder) (c : Name) → o ≡ made (subsetBlock m (λ _. c) j) 0 → c ≡ X (lowest m j) → o ≡ flatIn p i q j r
+unfolding made
 sum-at p i q Q j r m X e h f b o c g l =
-    g ∙ subset-lowest m j X c l ∙ ap (λ (s : List (OrderOn Name)). getD s 0 (constant ZeroCell 0)) (sym b) ∙ one-of p i q Q j r e h f
+    g ∙ subset-lowest m j X c l ∙ ap (λ (s : List (OrderOn Name)). flatOf (getD s 0 (constant ZeroCell 0))) (sym b) ∙ one-of p i q Q j r e h f
 
 -- the first order of a longer block, and those behind it
-pub head-of : (p : Phase) (i q Q j r : ℕ) → q ≡ Q → r ≡ 0 → getD (partAt p Q .block i j) 0 (constant ZeroCell 0) ≡ orderIn p i q j r
-unfolding orderIn named
+pub head-of : (p : Phase) (i q Q j r : ℕ) → q ≡ Q → r ≡ 0 → flatOf (getD (partAt p Q .block i j) 0 (constant ZeroCell 0)) ≡ flatIn p i q j r
+unfolding flatIn made
 head-of p i q Q j r e f = rw (e, f)
 
 pub loop-of : (p : Phase) (i q Q j r k s : ℕ) (o : OrderOn Name) (f : ℕ → List (OrderOn Name)) → q ≡ Q → 1 ≤ r → partAt p Q .block i j ≡ o ∷ loop k f
     → ((x : ℕ) → length (f x) ≡ s)
-    → r - 1 < k * s → named (f ((r - 1) / s)) ((r - 1) % s) ≡ orderIn p i q j r
-unfolding orderIn named
+    → r - 1 < k * s → made (f ((r - 1) / s)) ((r - 1) % s) ≡ flatIn p i q j r
+unfolding flatIn made
 loop-of p i q Q j r k s o f e l b h a =
     let x : ℕ = r - 1 in
     let g : 0 < s = positive-right k s x a in
     let w : r ≡ suc x = omega arith in
     let block = has-here (f (x / s)) (x % s) (constant ZeroCell 0) (omega (arith, h (x / s), mod-lt x g)) in
-    sym
-    (rw (e, b)
+    let there : getD (partAt p Q .block i j) r (constant ZeroCell 0) ≡ getD (f (x / s)) (x % s) (constant ZeroCell 0) =
+    (rw b
     (ap (λ (y : ℕ). getD (o ∷ loop k f) y (constant ZeroCell 0)) w
     ∙ ap (λ (y : ℕ). getD (loop k f) y (constant ZeroCell 0)) (sym (div-add-mod' x s))
-    ∙ in-even f s k h (x / s) (x % s) _ (div-lt-iff-lt-mul g .1 a) block .is (constant ZeroCell 0)))
+    ∙ in-even f s k h (x / s) (x % s) _ (div-lt-iff-lt-mul g .1 a) block .is (constant ZeroCell 0))) in
+    rw e (ap flatOf (sym there))
 
 -- an entry of a loop of blocks of one order
 one-each : (f : ℕ → List (OrderOn Name)) (k : ℕ) → ((x : ℕ) → length (f x) ≡ 1) → (y : ℕ) → y < k
@@ -204,10 +216,10 @@ module _ (n m i q j r : ℕ) (a : q ≢ 0) (b : r ≢ 0) (h : InPhase (cutPhase 
   pub cut-pools : 0 < m
   cut-pools = positive-right m m (r - 1) in-lines
 
-  pub cut-at : named (cutTurn j ((r - 1) / m) ((r - 1) % m)) 0 ≡ orderIn (cutPhase n m) i q j r
-  unfolding named
+  pub cut-at : made (cutTurn j ((r - 1) / m) ((r - 1) % m)) 0 ≡ flatIn (cutPhase n m) i q j r
+  unfolding made
   cut-at =
-      sym (one-each (cutTurn j ((r - 1) / m)) m (λ y. refl) ((r - 1) % m) (mod-lt (r - 1) cut-pools))
+      ap flatOf (sym (one-each (cutTurn j ((r - 1) / m)) m (λ y. refl) ((r - 1) % m) (mod-lt (r - 1) cut-pools)))
       ∙ loop-of (cutPhase n m) i q 1 j r m m _ (λ x. loop m (cutTurn j x)) second (omega arith) refl
       (λ x. even-length (cutTurn j x) 1 m (λ y. refl) ∙ omega arith) in-lines
 
@@ -217,7 +229,7 @@ module _ (n m k K i q j r : ℕ) (e : k ≡ K) (h : InPhase (phaseAt n m k) i q 
   pub known-place : InPhase (phaseAt n m K) i q j r
   known-place = rw e at h
 
-  pub known-order : (o : OrderOn Name) → o ≡ orderIn (phaseAt n m K) i q j r → o ≡ orderIn (phaseAt n m k) i q j r
+  pub known-order : (o : NamedOrder) → o ≡ flatIn (phaseAt n m K) i q j r → o ≡ flatIn (phaseAt n m k) i q j r
   known-order o f = rw e f
 
   -- where a row has one part
@@ -228,12 +240,12 @@ module _ (n m k K i q j r : ℕ) (e : k ≡ K) (h : InPhase (phaseAt n m k) i q 
     pub first-turn : r < partAt (phaseAt n m K) 0 .turn
     first-turn = in-part (phaseAt n m K) i q 0 j r first known-place .1
 
-    pub first-order : (o : OrderOn Name) → o ≡ named (partAt (phaseAt n m K) 0 .block i j) r → o ≡ orderIn (phaseAt n m k) i q j r
+    pub first-order : (o : NamedOrder) → o ≡ made (partAt (phaseAt n m K) 0 .block i j) r → o ≡ flatIn (phaseAt n m k) i q j r
     first-order o f = known-order o (f ∙ of-part (phaseAt n m K) i q 0 j r first)
 
     -- and a block one order
-    pub only-order : partAt (phaseAt n m K) 0 .turn ≡ 1 → (o : OrderOn Name) → o ≡ getD (partAt (phaseAt n m K) 0 .block i j) 0 (constant ZeroCell 0)
-        → o ≡ orderIn (phaseAt n m k) i q j r
+    pub only-order : partAt (phaseAt n m K) 0 .turn ≡ 1 → (o : NamedOrder) → o ≡ flatOf (getD (partAt (phaseAt n m K) 0 .block i j) 0 (constant ZeroCell 0))
+        → o ≡ flatIn (phaseAt n m k) i q j r
     only-order single o f = known-order o (f ∙ one-of (phaseAt n m K) i q 0 j r first known-place single)
 
 -- ---- the order at a place of the table
@@ -242,11 +254,11 @@ pub has-order : (p : Phase) (i q j r : ℕ) → InPhase p i q j r → Has (partA
 unfolding orderIn named
 has-order p i q j r h = has-here (partAt p q .block i j) r (constant ZeroCell 0) (omega (arith, h .place, partAt p q .fair i j))
 
-pub order-placed : (n m k i q j r : ℕ) → n ≤ bidLimit → m ≤ poolLimit → k < phaseCount → InPhase (phaseAt n m k) i q j r
+pub order-placed : (n m k i q j r : ℕ) → Counts n m → k < phaseCount → InPhase (phaseAt n m k) i q j r
     → PlacedOrder n m (orderIn (phaseAt n m k) i q j r)
 unfolding orderIn named phaseAt
-order-placed n m k i q j r h l a b =
+order-placed n m k i q j r h a b =
     all-at (PlacedOrder n m) (partAt (phaseIn (table n m) k) q .block i j)
-    (block-each (PlacedOrder n m) (table n m) (table-placed n m h l) k q i j (omega (arith, table-length n m)) (b .part) (b .row) (b .column)) r
+    (block-each (PlacedOrder n m) (table n m) (table-placed n m (h .bids) (h .pools .most)) k q i j (omega (arith, table-length n m)) (b .part) (b .row) (b .column)) r
     (constant ZeroCell 0)
     (omega (arith, b .place, partAt (phaseIn (table n m) k) q .fair i j))

@@ -6,21 +6,30 @@ use native.Mathlib.Nat.{mod-lt, div-lt-iff-lt-mul, div-add-mod', eq-or-lt-of-le}
 use mathlib.Core.Logic.{_⊎_, inl, inr}
 use native.Mathlib.Omega.{arith}
 use native.Mathlib.Numerals.{add-one}
-use lib.ListN.{length, getD, set}
-use lib.Seq.{getD-set-same, getD-set-other}
+use lib.ListN.{length, getD}
 use Rattle.definitions.specs.Arithmetic.{sumTo}
 use Rattle.plan.specs.Orders.{OrderOn}
 use Rattle.plan.specs.Names.{Name}
 use Rattle.orders.specs.declared.table.Columns.{Columns}
 use Rattle.orders.specs.declared.table.Shape.{Shape}
+use Rattle.definitions.specs.declared.Order.{Order}
+use Rattle.definitions.specs.declared.Order.the-variants.{Constant}
+use Rattle.plan.specs.Plan.{plan, plan-has}
+use Rattle.orders.specs.Walk.{numberedOf}
 use Rattle.plan.specs.Phased.{partAt, partSize, rowSize, partStart, phaseSize, phaseStart, tableSize, phaseIn, rowOf, flat, flat-length, Has, in-row, in-rows, in-table}
-use Rattle.plan.specs.Table.{Phase, phaseAt, phaseCount}
+use Rattle.plan.specs.Table.{Phase, table}
 use Rattle.orders.specs.Shaped.{phaseLimit, IsShape, SmallPart, PartIn, part-is, InPhase, orderIn, has-order, positive-right}
 
 -- row i and part q are among those of a phase
 pub record InPart (p : Phase) (i q : ℕ) : Type 0 where
   pub row : i < p .rows
   pub part : q < length (p .parts)
+
+-- r is the machine's order for entry x of a list over names
+pub record IsAt (n m : ℕ) (l : List (OrderOn Name)) (x : ℕ) (r : Order) : Type 0 where
+  pub order : OrderOn Name
+  pub there : Has l x order
+  pub is : r ≡ numberedOf n m order
 
 -- ---- in a row
 
@@ -93,6 +102,14 @@ module _ (ps : List Phase) (x : ℕ) where
       let e : k ≡ length ps = omega (arith, h .phases) in
       omega (arith, h .left, flat-length ps, ap (λ (u : ℕ). sumTo u (λ v. phaseSize (phaseIn ps v))) e)
 
+  -- before the list's end there is a phase left
+  pub phase-left : (y k : ℕ) → PhasesPassed ps x y k → x < length (flat ps) → k < length ps
+  phase-left y k h l = go (eq-or-lt-of-le (h .phases))
+    where
+      go : (k ≡ length ps) ⊎ (k < length ps) → k < length ps
+      go (inr a) = a
+      go (inl e) = absurd (omega (arith, phases-all y k h (omega arith)))
+
   module _ (y k : ℕ) (h : PhasesPassed ps x y k) (l : k < length ps) where
     pub phases-one : (size : ℕ) → size ≡ phaseSize (phaseIn ps k) → size ≤ y → PhasesPassed ps x (y - size) (k + 1)
     unfolding phaseStart sumTo
@@ -114,12 +131,20 @@ module _ (ps : List Phase) (x : ℕ) where
       pub place-within : y % row < rowSize (phaseIn ps k)
       place-within = rw (← e) (mod-lt y row-positive)
 
-      pub row-has : (o : OrderOn Name) → Has (rowOf (phaseIn ps k) (y / row)) (y % row) o → Has (flat ps) x o
+      row-has : (o : OrderOn Name) → Has (rowOf (phaseIn ps k) (y / row)) (y % row) o → Has (flat ps) x o
       row-has o r =
           let has = in-table ps k ((y / row) * rowSize (phaseIn ps k) + y % row) o l (in-rows (phaseIn ps k) (y / row) (y % row) o row-within r) in
           let w : x ≡ phaseStart ps k + ((y / row) * rowSize (phaseIn ps k) + y % row)
           = h .left ∙ ap (λ (z : ℕ). phaseStart ps k + z) (sym (div-add-mod' y row) ∙ ap (λ (z : ℕ). (y / row) * z + y % row) e) in
           rw w has
+
+      pub row-is-at : (n m : ℕ) (r : Order) → IsAt n m (rowOf (phaseIn ps k) (y / row)) (y % row) r → IsAt n m (flat ps) x r
+      row-is-at n m r q = record { order = q .order; there = row-has (q .order) (q .there); is = q .is }
+
+-- the plan's order at a position from that of its table
+pub plan-at : (n m at : ℕ) (r : Order) → IsAt n m (flat (table n m)) at r → r ≡ getD (plan n m) at (Constant 0 0)
+unfolding numberedOf
+plan-at n m at r q = q .is ∙ sym (plan-has n m at (q .order) (q .there) .is (Constant 0 0))
 
 -- ---- what the code read
 
@@ -139,31 +164,7 @@ part-facts p s h q l t e =
 pub size-is : (p : Phase) (s : Shape) → IsShape p s → (row : ℕ) → row ≡ rowSize p → s .0 * row ≡ phaseSize p
 size-is p s h row e = rw (e, h .rows)
 
--- ---- the sizes of the phases
-
--- size is that of phase k
-pub record IsSize (n m k size : ℕ) : Type 0 where
-  pub is : size ≡ phaseSize (phaseAt n m k)
-  pub small : size ≤ phaseLimit
-
--- the first k entries are the sizes of the first k phases
-abbrev pub SizesTo : (n m k : ℕ) → List ℕ → Type 0
-SizesTo n m k sizes = (t : ℕ) → t < k → IsSize n m t (getD sizes t 0)
-
--- sizes are those of all phases
-abbrev pub AreSizes : (n m : ℕ) → List ℕ → Type 0
-AreSizes n m sizes = SizesTo n m phaseCount sizes
-
--- one more entry
-pub one-more-size : (n m k size : ℕ) (sizes : List ℕ) → SizesTo n m k sizes → IsSize n m k size → k < length sizes
-    → SizesTo n m (k + 1) (set sizes k size)
-one-more-size n m k size sizes h e l t u = go (eq-or-lt-of-le u)
-  where
-    go : (suc t ≡ k + 1) ⊎ (suc t < k + 1) → IsSize n m t (getD (set sizes k size) t 0)
-    go (inl q) =
-        let same : t ≡ k = omega arith in
-        rw (same, getD-set-same sizes k size 0 l) e
-    go (inr r) = rw (getD-set-other sizes k t size 0 (λ q. absurd (omega arith))) (h t (omega arith))
+-- ---- the length of the table
 
 -- the first k phases are counted
 pub record PhasesCounted (ps : List Phase) (size k : ℕ) : Type 0 where

@@ -2,292 +2,331 @@
 ghost use mathlib.Core.Path.{_≡_};
 ghost use Prim.Native.Nat.{_<_, _≤_, _^_};
 ghost use Rattle.definitions.specs.Limits.{poolLimit};
+ghost use Rattle.plan.specs.Names.{familyCount};
 ghost use Rattle.plan.specs.Running.{lowered, raised, subsetBlock};
 ghost use Rattle.plan.specs.Blocks.{sizeBlock, demandTurn, cutTurn, testOrder, gainTurn, costTurn, amountBlock, placementTurn, restTurn, takeTurn, offerBlock, highestOfferTurn, priceBlock};
-ghost use Rattle.orders.specs.Walk.{nameOf, namedOf, named};
-use crate::names::CellName;
-use crate::names::Kind;
-use crate::names::NamedOrder;
+ghost use Rattle.orders.specs.Walk.{nameAt, flatOf, made};
+use crate::names::*;
 use crate::sets::is_leaving;
 use crate::sets::other_pools;
+use crate::sets::subset_count;
 use definitions::Limits;
-use layout::subset_count;
-use plan::Family;
 
 // The size of bid i.
 pub fn size_order(i: usize, r: usize) -> NamedOrder
     requires { ⌜ r < 3 ⌝ }
-    ensures { λ o. ⌜ namedOf o ≡ named (sizeBlock i) r ⌝ }
+    ensures { λ o. ⌜ o ≡ made (sizeBlock i) r ⌝ }
 {
-    let first = CellName(Family::Temporaries, 0, 0);
-    let quantity = CellName(Family::Bids, i, Limits::QUANTITY_PLACE);
-    let second = CellName(Family::Temporaries, 1, 0);
+    let quantity = Limits::QUANTITY_PLACE;
     if r == 0 {
-        let side = CellName(Family::Sides, i, 0);
-        return NamedOrder::Operate(Kind::PRODUCT, first, quantity, side);
+        return NamedOrder(PRODUCT, TEMPORARIES, 0, 0, BIDS, i, quantity, SIDES, i, 0);
     }
     if r == 1 {
-        return NamedOrder::Operate(Kind::DIFFERENCE, second, quantity, first);
+        return NamedOrder(
+            DIFFERENCE,
+            TEMPORARIES,
+            1,
+            0,
+            BIDS,
+            i,
+            quantity,
+            TEMPORARIES,
+            0,
+            0,
+        );
     }
-    let size = CellName(Family::Sizes, i, 0);
-    NamedOrder::Operate(Kind::DIFFERENCE, size, first, second)
+    NamedOrder(
+        DIFFERENCE,
+        SIZES,
+        i,
+        0,
+        TEMPORARIES,
+        0,
+        0,
+        TEMPORARIES,
+        1,
+        0,
+    )
 }
 
 // The size of bid i, if it is a purchase in pool p, added to the pool's demand.
 pub fn demand_turn(p: usize, i: usize, r: usize) -> NamedOrder
     requires { ⌜ r < 2 ⌝ }
-    ensures { λ o. ⌜ namedOf o ≡ named (demandTurn p i) r ⌝ }
+    ensures { λ o. ⌜ o ≡ made (demandTurn p i) r ⌝ }
 {
-    let first = CellName(Family::Temporaries, 0, 0);
     if r == 0 {
-        let side = CellName(Family::Sides, i, 0);
-        let pool_size = CellName(Family::PoolSizes, i, p);
-        return NamedOrder::Operate(Kind::PRODUCT, first, side, pool_size);
+        return NamedOrder(PRODUCT, TEMPORARIES, 0, 0, SIDES, i, 0, POOL_SIZES, i, p);
     }
-    let demand = CellName(Family::Demands, p, 0);
-    NamedOrder::Operate(Kind::SUM, demand, demand, first)
+    NamedOrder(SUM, DEMANDS, p, 0, DEMANDS, p, 0, TEMPORARIES, 0, 0)
 }
 
 // The size of bid j in pool p, if the test said that j is before i, added to the sizes before bid i.
 pub fn gain_turn(i: usize, j: usize, p: usize, r: usize) -> NamedOrder
     requires { ⌜ r < 2 ⌝ }
-    ensures { λ o. ⌜ namedOf o ≡ named (gainTurn i j p) r ⌝ }
+    ensures { λ o. ⌜ o ≡ made (gainTurn i j p) r ⌝ }
 {
-    let second = CellName(Family::Temporaries, 1, 0);
     if r == 0 {
-        let first = CellName(Family::Temporaries, 0, 0);
-        let pool_size = CellName(Family::PoolSizes, j, p);
-        return NamedOrder::Operate(Kind::PRODUCT, second, first, pool_size);
+        return NamedOrder(
+            PRODUCT,
+            TEMPORARIES,
+            1,
+            0,
+            TEMPORARIES,
+            0,
+            0,
+            POOL_SIZES,
+            j,
+            p,
+        );
     }
-    let size_before = CellName(Family::SizesBefore, i, p);
-    NamedOrder::Operate(Kind::SUM, size_before, size_before, second)
+    NamedOrder(
+        SUM,
+        SIZES_BEFORE,
+        i,
+        p,
+        SIZES_BEFORE,
+        i,
+        p,
+        TEMPORARIES,
+        1,
+        0,
+    )
 }
 
-// The lesser of d and a, to d.
-fn lowered_order(d: CellName, a: CellName, r: usize) -> NamedOrder
+// The lesser of cells (f, x, y) and (g, z, w), to the first of them.
+fn lowered_order(f: usize, x: usize, y: usize, g: usize, z: usize, w: usize, r: usize) -> NamedOrder
+    requires { ⌜ f < familyCount ⌝ }
+    requires { ⌜ g < familyCount ⌝ }
     requires { ⌜ r < 4 ⌝ }
-    ensures { λ o. ⌜ namedOf o ≡ named (lowered (nameOf d) (nameOf a)) r ⌝ }
+    ensures { λ o. ⌜ o ≡ made (lowered (nameAt f x y) (nameAt g z w)) r ⌝ }
 {
-    let first = CellName(Family::Temporaries, 0, 0);
-    let second = CellName(Family::Temporaries, 1, 0);
     if r == 0 {
-        return NamedOrder::Operate(Kind::LESS, first, a, d);
+        return NamedOrder(LESS, TEMPORARIES, 0, 0, g, z, w, f, x, y);
     }
     if r == 1 {
-        return NamedOrder::Operate(Kind::DIFFERENCE, second, a, d);
+        return NamedOrder(DIFFERENCE, TEMPORARIES, 1, 0, g, z, w, f, x, y);
     }
     if r == 2 {
-        return NamedOrder::Operate(Kind::PRODUCT, first, first, second);
+        return NamedOrder(
+            PRODUCT,
+            TEMPORARIES,
+            0,
+            0,
+            TEMPORARIES,
+            0,
+            0,
+            TEMPORARIES,
+            1,
+            0,
+        );
     }
-    NamedOrder::Operate(Kind::SUM, d, d, first)
+    NamedOrder(SUM, f, x, y, f, x, y, TEMPORARIES, 0, 0)
 }
 
-// The greater of d and a, to d.
-fn raised_order(d: CellName, a: CellName, r: usize) -> NamedOrder
+// The greater of cells (f, x, y) and (g, z, w), to the first of them.
+fn raised_order(f: usize, x: usize, y: usize, g: usize, z: usize, w: usize, r: usize) -> NamedOrder
+    requires { ⌜ f < familyCount ⌝ }
+    requires { ⌜ g < familyCount ⌝ }
     requires { ⌜ r < 4 ⌝ }
-    ensures { λ o. ⌜ namedOf o ≡ named (raised (nameOf d) (nameOf a)) r ⌝ }
+    ensures { λ o. ⌜ o ≡ made (raised (nameAt f x y) (nameAt g z w)) r ⌝ }
 {
-    let first = CellName(Family::Temporaries, 0, 0);
-    let second = CellName(Family::Temporaries, 1, 0);
     if r == 0 {
-        return NamedOrder::Operate(Kind::LESS, first, d, a);
+        return NamedOrder(LESS, TEMPORARIES, 0, 0, f, x, y, g, z, w);
     }
     if r == 1 {
-        return NamedOrder::Operate(Kind::DIFFERENCE, second, a, d);
+        return NamedOrder(DIFFERENCE, TEMPORARIES, 1, 0, g, z, w, f, x, y);
     }
     if r == 2 {
-        return NamedOrder::Operate(Kind::PRODUCT, first, first, second);
+        return NamedOrder(
+            PRODUCT,
+            TEMPORARIES,
+            0,
+            0,
+            TEMPORARIES,
+            0,
+            0,
+            TEMPORARIES,
+            1,
+            0,
+        );
     }
-    NamedOrder::Operate(Kind::SUM, d, d, first)
+    NamedOrder(SUM, f, x, y, f, x, y, TEMPORARIES, 0, 0)
 }
 
 // The accepted amount of bid i.
 pub fn amount_order(i: usize, r: usize) -> NamedOrder
     requires { ⌜ r < 4 ⌝ }
-    ensures { λ o. ⌜ namedOf o ≡ named (amountBlock i) r ⌝ }
+    ensures { λ o. ⌜ o ≡ made (amountBlock i) r ⌝ }
 {
-    let first = CellName(Family::Temporaries, 0, 0);
-    let used = CellName(Family::Uses, i, 0);
     if r == 0 {
-        let size = CellName(Family::Sizes, i, 0);
-        return NamedOrder::Operate(Kind::DIFFERENCE, first, size, used);
+        return NamedOrder(DIFFERENCE, TEMPORARIES, 0, 0, SIZES, i, 0, USES, i, 0);
     }
     if r == 1 {
-        return NamedOrder::Operate(Kind::DIFFERENCE, first, first, used);
+        return NamedOrder(DIFFERENCE, TEMPORARIES, 0, 0, TEMPORARIES, 0, 0, USES, i, 0);
     }
     if r == 2 {
-        let side = CellName(Family::Sides, i, 0);
-        return NamedOrder::Operate(Kind::PRODUCT, first, first, side);
+        return NamedOrder(PRODUCT, TEMPORARIES, 0, 0, TEMPORARIES, 0, 0, SIDES, i, 0);
     }
-    let amount = CellName(Family::Amounts, i, 0);
-    NamedOrder::Operate(Kind::SUM, amount, used, first)
+    NamedOrder(SUM, AMOUNTS, i, 0, USES, i, 0, TEMPORARIES, 0, 0)
 }
 
 // The used amount of bid i, if it is in pool p, added to the pool's.
 pub fn placement_turn(p: usize, i: usize, r: usize) -> NamedOrder
     requires { ⌜ r < 2 ⌝ }
-    ensures { λ o. ⌜ namedOf o ≡ named (placementTurn p i) r ⌝ }
+    ensures { λ o. ⌜ o ≡ made (placementTurn p i) r ⌝ }
 {
-    let first = CellName(Family::Temporaries, 0, 0);
     if r == 0 {
-        let membership = CellName(Family::Memberships, i, p);
-        let used = CellName(Family::Uses, i, 0);
-        return NamedOrder::Operate(Kind::PRODUCT, first, membership, used);
+        return NamedOrder(PRODUCT, TEMPORARIES, 0, 0, MEMBERSHIPS, i, p, USES, i, 0);
     }
-    let placement = CellName(Family::Placements, p, 0);
-    NamedOrder::Operate(Kind::SUM, placement, placement, first)
+    NamedOrder(SUM, PLACEMENTS, p, 0, PLACEMENTS, p, 0, TEMPORARIES, 0, 0)
 }
 
 // The offer of bid i.
 pub fn offer_order(i: usize, r: usize) -> NamedOrder
     requires { ⌜ r < 4 ⌝ }
-    ensures { λ o. ⌜ namedOf o ≡ named (offerBlock i) r ⌝ }
+    ensures { λ o. ⌜ o ≡ made (offerBlock i) r ⌝ }
 {
-    let first = CellName(Family::Temporaries, 0, 0);
-    let second = CellName(Family::Temporaries, 1, 0);
     if r == 0 {
-        let zero_cell = CellName(Family::ZeroCells, 0, 0);
-        let amount = CellName(Family::Amounts, i, 0);
-        return NamedOrder::Operate(Kind::LESS, first, zero_cell, amount);
+        return NamedOrder(LESS, TEMPORARIES, 0, 0, ZERO_CELLS, 0, 0, AMOUNTS, i, 0);
     }
     if r == 1 {
-        let one = CellName(Family::Units, 0, 0);
-        let side = CellName(Family::Sides, i, 0);
-        return NamedOrder::Operate(Kind::DIFFERENCE, second, one, side);
+        return NamedOrder(DIFFERENCE, TEMPORARIES, 1, 0, UNITS, 0, 0, SIDES, i, 0);
     }
     if r == 2 {
-        return NamedOrder::Operate(Kind::PRODUCT, first, first, second);
+        return NamedOrder(
+            PRODUCT,
+            TEMPORARIES,
+            0,
+            0,
+            TEMPORARIES,
+            0,
+            0,
+            TEMPORARIES,
+            1,
+            0,
+        );
     }
-    let offer = CellName(Family::Offers, i, 0);
-    let positive_price = CellName(Family::PositivePrices, i, 0);
-    NamedOrder::Operate(Kind::PRODUCT, offer, first, positive_price)
+    NamedOrder(
+        PRODUCT,
+        OFFERS,
+        i,
+        0,
+        TEMPORARIES,
+        0,
+        0,
+        POSITIVE_PRICES,
+        i,
+        0,
+    )
 }
 
 // The price and presence of pool p.
 pub fn price_order(p: usize, r: usize) -> NamedOrder
     requires { ⌜ r < 3 ⌝ }
-    ensures { λ o. ⌜ namedOf o ≡ named (priceBlock p) r ⌝ }
+    ensures { λ o. ⌜ o ≡ made (priceBlock p) r ⌝ }
 {
-    let presence = CellName(Family::Prices, p, 1);
-    let highest_offer = CellName(Family::HighestOffers, p, 0);
-    let first = CellName(Family::Temporaries, 0, 0);
     if r == 0 {
-        let zero_cell = CellName(Family::ZeroCells, 0, 0);
-        return NamedOrder::Operate(Kind::LESS, presence, zero_cell, highest_offer);
+        return NamedOrder(LESS, PRICES, p, 1, ZERO_CELLS, 0, 0, HIGHEST_OFFERS, p, 0);
     }
     if r == 1 {
-        let shift = CellName(Family::Shifts, 0, 0);
-        return NamedOrder::Operate(Kind::DIFFERENCE, first, highest_offer, shift);
+        return NamedOrder(
+            DIFFERENCE,
+            TEMPORARIES,
+            0,
+            0,
+            HIGHEST_OFFERS,
+            p,
+            0,
+            SHIFTS,
+            0,
+            0,
+        );
     }
-    let pool_price = CellName(Family::Prices, p, 0);
-    NamedOrder::Operate(Kind::PRODUCT, pool_price, first, presence)
+    NamedOrder(PRODUCT, PRICES, p, 0, TEMPORARIES, 0, 0, PRICES, p, 1)
 }
 
-// Order s of the sums over all subsets; a is the cell of the set's lowest pool.
-pub fn subset_order(m: usize, s: usize, a: CellName) -> NamedOrder
-    ensures { λ o. ⌜ namedOf o ≡ named (subsetBlock m (λ p. nameOf a) s) 0 ⌝ }
+// Order s of the sums over all subsets; (g, z, w) is the cell of the set's lowest pool.
+pub fn subset_order(m: usize, s: usize, g: usize, z: usize, w: usize) -> NamedOrder
+    requires { ⌜ g < familyCount ⌝ }
+    ensures { λ o. ⌜ o ≡ made (subsetBlock m (λ p. nameAt g z w) s) 0 ⌝ }
 {
-    let subset = CellName(Family::Subsets, s, 0);
     if s == 0 {
-        return NamedOrder::Constant(subset, 0);
+        return NamedOrder(CONSTANT, SUBSETS, s, 0, 0, 0, 0, 0, 0, 0);
     }
-    let other = CellName(Family::Subsets, other_pools(m, s), 0);
-    NamedOrder::Operate(Kind::SUM, subset, other, a)
+    NamedOrder(SUM, SUBSETS, s, 0, SUBSETS, other_pools(m, s), 0, g, z, w)
 }
 
 // Is bid j before bid i?
 pub fn test_order(i: usize, j: usize) -> NamedOrder
-    ensures { λ o. ⌜ namedOf o ≡ testOrder i j ⌝ }
+    ensures { λ o. ⌜ o ≡ flatOf (testOrder i j) ⌝ }
 {
-    let first = CellName(Family::Temporaries, 0, 0);
     if j < i {
-        let key = CellName(Family::Keys, j, 0);
-        let next = CellName(Family::Nexts, i, 0);
-        return NamedOrder::Operate(Kind::LESS, first, key, next);
+        return NamedOrder(LESS, TEMPORARIES, 0, 0, KEYS, j, 0, NEXTS, i, 0);
     }
     if i < j {
-        let double = CellName(Family::Doubles, j, 0);
-        let key = CellName(Family::Keys, i, 0);
-        return NamedOrder::Operate(Kind::LESS, first, double, key);
+        return NamedOrder(LESS, TEMPORARIES, 0, 0, DOUBLES, j, 0, KEYS, i, 0);
     }
-    let zero_cell = CellName(Family::ZeroCells, 0, 0);
-    NamedOrder::Operate(Kind::LESS, first, zero_cell, zero_cell)
+    NamedOrder(LESS, TEMPORARIES, 0, 0, ZERO_CELLS, 0, 0, ZERO_CELLS, 0, 0)
 }
 
 // Line a to b's part of the cut of s.
 pub fn cut_turn(s: usize, a: usize, b: usize) -> NamedOrder
-    ensures { λ o. ⌜ namedOf o ≡ named (cutTurn s a b) 0 ⌝ }
+    ensures { λ o. ⌜ o ≡ made (cutTurn s a b) 0 ⌝ }
 {
-    let cut = CellName(Family::Cuts, s, 0);
     if is_leaving(s, a, b) {
-        let capacity = CellName(Family::Capacities, a, b);
-        return NamedOrder::Operate(Kind::SUM, cut, cut, capacity);
+        return NamedOrder(SUM, CUTS, s, 0, CUTS, s, 0, CAPACITIES, a, b);
     }
-    let zero_cell = CellName(Family::ZeroCells, 0, 0);
-    NamedOrder::Operate(Kind::SUM, cut, cut, zero_cell)
+    NamedOrder(SUM, CUTS, s, 0, CUTS, s, 0, ZERO_CELLS, 0, 0)
 }
 
 // One step of a least, in the third temporary: what line a to b leaves unused is at most the slack of s, if the line leaves s.
 pub fn rest_turn(a: usize, b: usize, s: usize, r: usize) -> NamedOrder
     requires { ⌜ r < 4 ⌝ }
-    ensures { λ o. ⌜ namedOf o ≡ named (restTurn a b s) r ⌝ }
+    ensures { λ o. ⌜ o ≡ made (restTurn a b s) r ⌝ }
 {
-    let third = CellName(Family::Temporaries, 2, 0);
     if is_leaving(s, a, b) {
-        let slack = CellName(Family::Slacks, s, 0);
-        return lowered_order(third, slack, r);
+        return lowered_order(TEMPORARIES, 2, 0, SLACKS, s, 0, r);
     }
-    let capacity = CellName(Family::Capacities, a, b);
-    lowered_order(third, capacity, r)
+    lowered_order(TEMPORARIES, 2, 0, CAPACITIES, a, b, r)
 }
 
 // The slack of s after line l, a to b: less what the line leaves unused if it leaves s, less its flow if it enters s.
 pub fn take_turn(l: usize, a: usize, b: usize, s: usize) -> NamedOrder
-    ensures { λ o. ⌜ namedOf o ≡ named (takeTurn l a b s) 0 ⌝ }
+    ensures { λ o. ⌜ o ≡ made (takeTurn l a b s) 0 ⌝ }
 {
-    let slack = CellName(Family::Slacks, s, 0);
     if is_leaving(s, a, b) {
-        let third = CellName(Family::Temporaries, 2, 0);
-        return NamedOrder::Operate(Kind::DIFFERENCE, slack, slack, third);
+        return NamedOrder(DIFFERENCE, SLACKS, s, 0, SLACKS, s, 0, TEMPORARIES, 2, 0);
     }
     if is_leaving(s, b, a) {
-        let flow = CellName(Family::Flows, l, 0);
-        return NamedOrder::Operate(Kind::DIFFERENCE, slack, slack, flow);
+        return NamedOrder(DIFFERENCE, SLACKS, s, 0, SLACKS, s, 0, FLOWS, l, 0);
     }
-    let zero_cell = CellName(Family::ZeroCells, 0, 0);
-    NamedOrder::Operate(Kind::DIFFERENCE, slack, slack, zero_cell)
+    NamedOrder(DIFFERENCE, SLACKS, s, 0, SLACKS, s, 0, ZERO_CELLS, 0, 0)
 }
 
-// One step of a least, in d: the cost of s is its cut and the sizes outside s.
-pub fn cost_turn(m: usize, d: CellName, s: usize, r: usize) -> NamedOrder
+// One step of a least, in cell i of family u: the cost of s is its cut and the sizes outside s.
+pub fn cost_turn(m: usize, u: usize, i: usize, s: usize, r: usize) -> NamedOrder
+    requires { ⌜ u < familyCount ⌝ }
     requires { ⌜ m ≤ poolLimit ⌝ }
     requires { ⌜ s < 2 ^ m ⌝ }
     requires { ⌜ r < 5 ⌝ }
-    ensures { λ o. ⌜ namedOf o ≡ named (costTurn m (nameOf d) s) r ⌝ }
+    ensures { λ o. ⌜ o ≡ made (costTurn m (nameAt u i 0) s) r ⌝ }
 {
-    let third = CellName(Family::Temporaries, 2, 0);
     if r == 0 {
         let sets = subset_count(m);
-        let cut = CellName(Family::Cuts, s, 0);
         let last = sets - 1;
         let rest = last - s;
-        let outside = CellName(Family::Subsets, rest, 0);
-        return NamedOrder::Operate(Kind::SUM, third, cut, outside);
+        return NamedOrder(SUM, TEMPORARIES, 2, 0, CUTS, s, 0, SUBSETS, rest, 0);
     }
-    lowered_order(d, third, r - 1)
+    lowered_order(u, i, 0, TEMPORARIES, 2, 0, r - 1)
 }
 
 // One step of a greatest, in pool p's highest offer: the offer of bid i if it is in p.
 pub fn highest_offer_turn(p: usize, i: usize, r: usize) -> NamedOrder
     requires { ⌜ r < 5 ⌝ }
-    ensures { λ o. ⌜ namedOf o ≡ named (highestOfferTurn p i) r ⌝ }
+    ensures { λ o. ⌜ o ≡ made (highestOfferTurn p i) r ⌝ }
 {
-    let third = CellName(Family::Temporaries, 2, 0);
     if r == 0 {
-        let membership = CellName(Family::Memberships, i, p);
-        let offer = CellName(Family::Offers, i, 0);
-        return NamedOrder::Operate(Kind::PRODUCT, third, membership, offer);
+        return NamedOrder(PRODUCT, TEMPORARIES, 2, 0, MEMBERSHIPS, i, p, OFFERS, i, 0);
     }
-    let highest_offer = CellName(Family::HighestOffers, p, 0);
-    raised_order(highest_offer, third, r - 1)
+    raised_order(HIGHEST_OFFERS, p, 0, TEMPORARIES, 2, 0, r - 1)
 }

@@ -1,25 +1,27 @@
-// The plan as a table of phases: how many orders it has, its order at a position, its run on a sheet, and its bytes in a slice.
+// The plan, asked at a position, run on a sheet and written as bytes: all by one table of phases, on which two loops walk.
 // An order is made over the names of cells first; one function then gives each name its cell.
 ghost use mathlib.Core.Path.{_≡_};
 ghost use lib.ListN.{length};
-ghost use Rattle.definitions.specs.Plan.{total};
+ghost use Rattle.definitions.specs.Answers.{refusalOf};
+ghost use Rattle.definitions.specs.Calls.{countsRefusal};
+ghost use Rattle.definitions.specs.Plan.{asked, askRefusal, total};
 ghost use Rattle.plan.specs.Plan.{plan};
-ghost use Rattle.orders.specs.Entry.{planEntry};
+ghost use Rattle.orders.specs.Answer.{answerOf, SamePlan};
 ghost use Rattle.orders.specs.Runs.{steppedPlan};
 ghost use Rattle.orders.specs.Writes.{countsWritten, filledCounts, filledSlice};
+use crate::layout::tables_of;
 use crate::run::run_phases;
 use crate::walk::length_of;
 use crate::walk::order_in;
-use crate::walk::sizes_of;
 use crate::write::write_from;
 use definitions::Order;
+use definitions::Verdict;
 use definitions::is_accepted;
 use judging::judge_counts;
-use layout::columns_of;
-use layout::starts_of;
 
 mod blocks;
 mod cells;
+mod layout;
 mod names;
 mod run;
 mod sets;
@@ -27,33 +29,88 @@ mod table;
 mod walk;
 mod write;
 
-// How many orders the plan has; none for refused counts.
-pub fn plan_length(n: usize, m: usize) -> usize
-    ensures { λ r. ⌜ r ≡ total plan n m ⌝ }
-{
-    if !is_accepted(judge_counts(n, m)) {
-        return 0;
-    }
-    length_of(n, m)
+// A position in the plan for n bids and m pools: how many orders come before it.
+pub struct Position {
+    pub n: usize,
+    pub m: usize,
+    pub at: usize,
 }
 
-// What the plan has at a position.
-pub enum Entry {
-    Order(Order),
-    Nothing,
+// What the plan gives at a position: an order with the position after it, that it has ended, or a refusal.
+pub enum Asked {
+    Order(Order, Position),
+    Ended,
+    Refused(Verdict),
 }
 
-// The plan's order at a position; nothing for refused counts and from the end on.
-pub fn order_at(n: usize, m: usize, at: usize) -> Entry
-    ensures { λ r. ⌜ r ≡ planEntry plan n m at ⌝ }
-{
-    if !is_accepted(judge_counts(n, m)) {
-        return Entry::Nothing;
+impl Position {
+    pub fn first(n: usize, m: usize) -> Position
+        ensures { λ r. ⌜ r ≡ record { n = n; m = m; at = 0 } ⌝ }
+    {
+        Position { n, m, at: 0 }
     }
-    let starts = starts_of(n, m);
-    let columns = columns_of(m);
-    let sizes = sizes_of(n, m);
-    order_in(n, m, &starts, &columns, &sizes, at)
+
+    // 13 after the counts: a position past the total.
+    pub fn judge(self) -> Verdict
+        ensures { λ r. ⌜ refusalOf r ≡ askRefusal plan (self .n) (self .m) (self .at) ⌝ }
+    {
+        let n = self.n;
+        let m = self.m;
+        let at = self.at;
+        let counts = judge_counts(n, m);
+        if !is_accepted(counts) {
+            return counts;
+        }
+        let tables = tables_of(n, m);
+        if length_of(n, m, &tables) < at {
+            return Verdict::Position;
+        }
+        Verdict::Accepted
+    }
+
+    // Before the total there is an order, at the total the plan has ended.
+    pub fn ask(self) -> Asked
+        ensures answer { λ r. ⌜ answerOf r ≡ asked plan (self .n) (self .m) (self .at) ⌝ }
+        ensures same { λ r. ⌜ SamePlan (self .n) (self .m) r ⌝ }
+    {
+        let n = self.n;
+        let m = self.m;
+        let at = self.at;
+        let verdict = self.judge();
+        if !is_accepted(verdict) {
+            return Asked::Refused(verdict);
+        }
+        let tables = tables_of(n, m);
+        if length_of(n, m, &tables) <= at {
+            return Asked::Ended;
+        }
+        Asked::Order(order_in(n, m, &tables, at), Position { n, m, at: at + 1 })
+    }
+}
+
+// How many orders the plan has, or why there is no plan for these counts.
+pub struct Total {
+    pub verdict: Verdict,
+    pub orders: usize,
+}
+
+pub struct Plan {}
+
+impl Plan {
+    pub fn total(n: usize, m: usize) -> Total
+        ensures verdict { λ r. ⌜ refusalOf (r .verdict) ≡ countsRefusal n m ⌝ }
+        ensures orders { λ r. ⌜ r .orders ≡ total plan n m ⌝ }
+    {
+        let verdict = judge_counts(n, m);
+        if !is_accepted(verdict) {
+            return Total { verdict, orders: 0 };
+        }
+        let tables = tables_of(n, m);
+        Total {
+            verdict,
+            orders: length_of(n, m, &tables),
+        }
+    }
 }
 
 // Runs the plan on a sheet, and gives how many orders it has; refused counts leave the sheet as it was, and give 0.
@@ -64,10 +121,9 @@ pub fn run_plan(n: usize, m: usize, sheet: &mut [u32]) -> usize
     if !is_accepted(judge_counts(n, m)) {
         return 0;
     }
-    let starts = starts_of(n, m);
-    let columns = columns_of(m);
-    run_phases(n, m, &starts, &columns, sheet);
-    length_of(n, m)
+    let tables = tables_of(n, m);
+    run_phases(n, m, &tables, sheet);
+    length_of(n, m, &tables)
 }
 
 // What was written: bytes, orders, and the position after them.
@@ -89,8 +145,6 @@ pub fn write_orders(n: usize, m: usize, at: usize, out: &mut [u8]) -> Written
             next: 0,
         };
     }
-    let starts = starts_of(n, m);
-    let columns = columns_of(m);
-    let sizes = sizes_of(n, m);
-    write_from(n, m, &starts, &columns, &sizes, at, out)
+    let tables = tables_of(n, m);
+    write_from(n, m, &tables, at, out)
 }

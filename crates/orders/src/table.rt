@@ -1,11 +1,12 @@
 // The table of the plan's phases: how often each loops, and the order at a place of it, over names.
 ghost use mathlib.Core.Path.{_≡_};
 ghost use Prim.Native.Nat.{_*_, _≤_, _<_};
-ghost use Rattle.definitions.specs.Limits.{bidLimit, poolLimit, cellCount};
-ghost use Rattle.plan.specs.Names.{at};
-ghost use Rattle.orders.specs.Walk.{namedOf};
+ghost use Rattle.definitions.specs.Limits.{poolLimit};
+ghost use Rattle.laws.specs.Sizes.{Counts};
+ghost use Rattle.plan.specs.Names.{familyCount};
+ghost use Rattle.orders.specs.Walk.{nameAt};
 ghost use Rattle.plan.specs.Table.{scratchCount, phaseAt, phaseCount, demandPhase, cutPhase, sizeBeforePhase, rankPhase, placementPhase, slackPhase, linePhase, highestOfferPhase};
-ghost use Rattle.orders.specs.Shaped.{IsShape, PartIn, InPhase, orderIn};
+ghost use Rattle.orders.specs.Shaped.{IsShape, PartIn, InPhase, flatIn};
 use crate::blocks::amount_order;
 use crate::blocks::cost_turn;
 use crate::blocks::cut_turn;
@@ -20,13 +21,10 @@ use crate::blocks::size_order;
 use crate::blocks::subset_order;
 use crate::blocks::take_turn;
 use crate::blocks::test_order;
-use crate::names::CellName;
-use crate::names::Kind;
-use crate::names::NamedOrder;
+use crate::names::*;
 use crate::sets::lowest_pool;
+use crate::sets::subset_count;
 use definitions::Limits;
-use layout::subset_count;
-use plan::Family;
 
 // The columns of a part of a phase's row, and how many orders each has.
 pub struct Columns(pub usize, pub usize);
@@ -45,9 +43,6 @@ pub struct Shape(
     pub usize,
 );
 
-// How many phases the plan has.
-pub const PHASES: usize = 26;
-
 // How many lines there are.
 fn line_count(m: usize) -> usize
     requires { ⌜ m ≤ poolLimit ⌝ }
@@ -56,25 +51,15 @@ fn line_count(m: usize) -> usize
     m * m
 }
 
-// How many scratch cells have names.
-fn zero_count(n: usize, m: usize) -> usize
-    requires { ⌜ n ≤ bidLimit ⌝ }
-    requires { ⌜ m ≤ poolLimit ⌝ }
-    ensures { λ r. ⌜ (r ≡ scratchCount n m) × (r ≤ cellCount) ⌝ }
-{
-    6 + 10 * n + 4 * (n * m) + 4 * m + 3 * subset_count(m)
-}
-
-// The numbers of phase k.
-pub fn shape_of(n: usize, m: usize, k: usize) -> Shape
-    requires { ⌜ n ≤ bidLimit ⌝ }
-    requires { ⌜ m ≤ poolLimit ⌝ }
+// The numbers of phase k, for so many scratch cells.
+pub fn shape_of(n: usize, m: usize, scratch: usize, k: usize) -> Shape
+    requires { ⌜ Counts n m ⌝ }
+    requires { ⌜ scratch ≡ scratchCount n m ⌝ }
     requires { ⌜ k < phaseCount ⌝ }
     ensures { λ s. ⌜ IsShape (phaseAt n m k) s ⌝ }
 {
     let sets = subset_count(m);
     let lines = line_count(m);
-    let zeros = zero_count(n, m);
     let cut = 1 + lines;
     let gains = m * 2;
     let gain = 1 + gains;
@@ -104,7 +89,7 @@ pub fn shape_of(n: usize, m: usize, k: usize) -> Shape
         22 => Shape(n, 1, 1, 4, 0, 0, 0, 0, 0, 0), // offers
         23 => Shape(m, 2, 1, 1, n, 5, 0, 0, 0, 0), // highest offers
         24 => Shape(m, 1, 1, 3, 0, 0, 0, 0, 0, 0), // prices
-        25.. => Shape(1, 1, zeros, 1, 0, 0, 0, 0, 0, 0), // zeros
+        25.. => Shape(1, 1, scratch, 1, 0, 0, 0, 0, 0, 0), // zeros
     }
 }
 
@@ -123,42 +108,35 @@ pub fn part_of(s: Shape, q: usize) -> Columns
 // An order of the demand of pool i.
 fn demands(n: usize, m: usize, i: usize, q: usize, j: usize, r: usize) -> NamedOrder
     requires { ⌜ InPhase (demandPhase n m) i q j r ⌝ }
-    ensures { λ o. ⌜ namedOf o ≡ orderIn (demandPhase n m) i q j r ⌝ }
+    ensures { λ o. ⌜ o ≡ flatIn (demandPhase n m) i q j r ⌝ }
 {
     if q == 0 {
-        return NamedOrder::Constant(CellName(Family::Demands, i, 0), 0);
+        return NamedOrder(CONSTANT, DEMANDS, i, 0, 0, 0, 0, 0, 0, 0);
     }
     demand_turn(i, j, r)
 }
 
 // An order of the cuts: of the sums of demands over the sets, then of the cut of set j.
 fn cuts(n: usize, m: usize, i: usize, q: usize, j: usize, r: usize) -> NamedOrder
-    requires { ⌜ m ≤ poolLimit ⌝ }
     requires { ⌜ InPhase (cutPhase n m) i q j r ⌝ }
-    ensures { λ o. ⌜ namedOf o ≡ orderIn (cutPhase n m) i q j r ⌝ }
+    ensures { λ o. ⌜ o ≡ flatIn (cutPhase n m) i q j r ⌝ }
 {
     if q == 0 {
-        return subset_order(m, j, CellName(Family::Demands, lowest_pool(m, j), 0));
+        return subset_order(m, j, DEMANDS, lowest_pool(m, j), 0);
     }
     if r == 0 {
-        return NamedOrder::Operate(
-            Kind::SUM,
-            CellName(Family::Cuts, j, 0),
-            CellName(Family::Subsets, j, 0),
-            CellName(Family::ZeroCells, 0, 0),
-        );
+        return NamedOrder(SUM, CUTS, j, 0, SUBSETS, j, 0, ZERO_CELLS, 0, 0);
     }
     cut_turn(j, (r - 1) / m, (r - 1) % m)
 }
 
 // An order of the sizes before bid i.
 fn sizes_before(n: usize, m: usize, i: usize, q: usize, j: usize, r: usize) -> NamedOrder
-    requires { ⌜ m ≤ poolLimit ⌝ }
     requires { ⌜ InPhase (sizeBeforePhase n m) i q j r ⌝ }
-    ensures { λ o. ⌜ namedOf o ≡ orderIn (sizeBeforePhase n m) i q j r ⌝ }
+    ensures { λ o. ⌜ o ≡ flatIn (sizeBeforePhase n m) i q j r ⌝ }
 {
     if q == 0 {
-        return NamedOrder::Constant(CellName(Family::SizesBefore, i, j), 0);
+        return NamedOrder(CONSTANT, SIZES_BEFORE, i, j, 0, 0, 0, 0, 0, 0);
     }
     if r == 0 {
         return test_order(i, j);
@@ -170,77 +148,61 @@ fn sizes_before(n: usize, m: usize, i: usize, q: usize, j: usize, r: usize) -> N
 fn ranks(
     n: usize,
     m: usize,
-    t: Family,
-    u: Family,
+    t: usize,
+    u: usize,
     i: usize,
     q: usize,
     j: usize,
     r: usize,
 ) -> NamedOrder
     requires { ⌜ m ≤ poolLimit ⌝ }
-    requires { ⌜ InPhase (rankPhase n m (at t) (λ x. at u x 0)) i q j r ⌝ }
-    ensures { λ o. ⌜ namedOf o ≡ orderIn (rankPhase n m (at t) (λ x. at u x 0)) i q j r ⌝ }
+    requires { ⌜ t < familyCount ⌝ }
+    requires { ⌜ u < familyCount ⌝ }
+    requires { ⌜ InPhase (rankPhase n m (nameAt t) (λ x. nameAt u x 0)) i q j r ⌝ }
+    ensures { λ o. ⌜ o ≡ flatIn (rankPhase n m (nameAt t) (λ x. nameAt u x 0)) i q j r ⌝ }
 {
     if q == 0 {
-        return subset_order(m, j, CellName(t, i, lowest_pool(m, j)));
+        return subset_order(m, j, t, i, lowest_pool(m, j));
     }
     if q == 1 {
-        return NamedOrder::Constant(CellName(u, i, 0), Limits::POSITIVE);
+        return NamedOrder(CONSTANT, u, i, 0, Limits::POSITIVE as usize, 0, 0, 0, 0, 0);
     }
-    cost_turn(m, CellName(u, i, 0), j, r)
+    cost_turn(m, u, i, j, r)
 }
 
 // An order of what is used in pool i.
 fn placements(n: usize, m: usize, i: usize, q: usize, j: usize, r: usize) -> NamedOrder
     requires { ⌜ InPhase (placementPhase n m) i q j r ⌝ }
-    ensures { λ o. ⌜ namedOf o ≡ orderIn (placementPhase n m) i q j r ⌝ }
+    ensures { λ o. ⌜ o ≡ flatIn (placementPhase n m) i q j r ⌝ }
 {
     if q == 0 {
-        return NamedOrder::Constant(CellName(Family::Placements, i, 0), 0);
+        return NamedOrder(CONSTANT, PLACEMENTS, i, 0, 0, 0, 0, 0, 0, 0);
     }
     placement_turn(i, j, r)
 }
 
 // An order of the slacks: of the sums of placements over the sets, then of the slack of set j.
 fn slacks(n: usize, m: usize, i: usize, q: usize, j: usize, r: usize) -> NamedOrder
-    requires { ⌜ m ≤ poolLimit ⌝ }
     requires { ⌜ InPhase (slackPhase n m) i q j r ⌝ }
-    ensures { λ o. ⌜ namedOf o ≡ orderIn (slackPhase n m) i q j r ⌝ }
+    ensures { λ o. ⌜ o ≡ flatIn (slackPhase n m) i q j r ⌝ }
 {
     if q == 0 {
-        return subset_order(m, j, CellName(Family::Placements, lowest_pool(m, j), 0));
+        return subset_order(m, j, PLACEMENTS, lowest_pool(m, j), 0);
     }
-    NamedOrder::Operate(
-        Kind::DIFFERENCE,
-        CellName(Family::Slacks, j, 0),
-        CellName(Family::Cuts, j, 0),
-        CellName(Family::Subsets, j, 0),
-    )
+    NamedOrder(DIFFERENCE, SLACKS, j, 0, CUTS, j, 0, SUBSETS, j, 0)
 }
 
 // An order of line i.
 fn lines(n: usize, m: usize, i: usize, q: usize, j: usize, r: usize) -> NamedOrder
     requires { ⌜ InPhase (linePhase n m) i q j r ⌝ }
-    ensures { λ o. ⌜ namedOf o ≡ orderIn (linePhase n m) i q j r ⌝ }
+    ensures { λ o. ⌜ o ≡ flatIn (linePhase n m) i q j r ⌝ }
 {
     let a = i / m;
     let b = i % m;
-    let third = CellName(Family::Temporaries, 2, 0);
-    let capacity = CellName(Family::Capacities, a, b);
     match q {
-        0 => NamedOrder::Operate(
-            Kind::SUM,
-            third,
-            capacity,
-            CellName(Family::ZeroCells, 0, 0),
-        ),
+        0 => NamedOrder(SUM, TEMPORARIES, 2, 0, CAPACITIES, a, b, ZERO_CELLS, 0, 0),
         1 => rest_turn(a, b, j, r),
-        2 => NamedOrder::Operate(
-            Kind::DIFFERENCE,
-            CellName(Family::Flows, i, 0),
-            capacity,
-            third,
-        ),
+        2 => NamedOrder(DIFFERENCE, FLOWS, i, 0, CAPACITIES, a, b, TEMPORARIES, 2, 0),
         3.. => take_turn(i, a, b, j),
     }
 }
@@ -248,86 +210,84 @@ fn lines(n: usize, m: usize, i: usize, q: usize, j: usize, r: usize) -> NamedOrd
 // An order of the highest offer in pool i.
 fn highest_offers(n: usize, m: usize, i: usize, q: usize, j: usize, r: usize) -> NamedOrder
     requires { ⌜ InPhase (highestOfferPhase n m) i q j r ⌝ }
-    ensures { λ o. ⌜ namedOf o ≡ orderIn (highestOfferPhase n m) i q j r ⌝ }
+    ensures { λ o. ⌜ o ≡ flatIn (highestOfferPhase n m) i q j r ⌝ }
 {
     if q == 0 {
-        return NamedOrder::Constant(CellName(Family::HighestOffers, i, 0), 0);
+        return NamedOrder(CONSTANT, HIGHEST_OFFERS, i, 0, 0, 0, 0, 0, 0, 0);
     }
     highest_offer_turn(i, j, r)
 }
 
 // The order at a place of phase k.
 pub fn order_of(n: usize, m: usize, k: usize, i: usize, q: usize, j: usize, r: usize) -> NamedOrder
-    requires { ⌜ n ≤ bidLimit ⌝ }
-    requires { ⌜ m ≤ poolLimit ⌝ }
+    requires { ⌜ Counts n m ⌝ }
     requires { ⌜ k < phaseCount ⌝ }
     requires { ⌜ InPhase (phaseAt n m k) i q j r ⌝ }
-    ensures { λ o. ⌜ namedOf o ≡ orderIn (phaseAt n m k) i q j r ⌝ }
+    ensures { λ o. ⌜ o ≡ flatIn (phaseAt n m k) i q j r ⌝ }
 {
     match k {
-        0 => NamedOrder::Constant(CellName(Family::Units, i, 0), 1),
-        1 => NamedOrder::Constant(CellName(Family::Shifts, i, 0), Limits::PRICE as u32 + 1),
-        2 => NamedOrder::Constant(CellName(Family::PoolNumbers, i, 0), (i + 1) as u32),
-        3 => NamedOrder::Operate(
-            Kind::LESS,
-            CellName(Family::Sides, i, 0),
-            CellName(Family::ZeroCells, 0, 0),
-            CellName(Family::Bids, i, Limits::QUANTITY_PLACE),
+        0 => NamedOrder(CONSTANT, UNITS, i, 0, 1, 0, 0, 0, 0, 0),
+        1 => NamedOrder(
+            CONSTANT,
+            SHIFTS,
+            i,
+            0,
+            Limits::PRICE as usize + 1,
+            0,
+            0,
+            0,
+            0,
+            0,
+        ),
+        2 => NamedOrder(CONSTANT, POOL_NUMBERS, i, 0, i + 1, 0, 0, 0, 0, 0),
+        3 => NamedOrder(
+            LESS,
+            SIDES,
+            i,
+            0,
+            ZERO_CELLS,
+            0,
+            0,
+            BIDS,
+            i,
+            Limits::QUANTITY_PLACE,
         ),
         4 => size_order(i, r),
-        5 => NamedOrder::Operate(
-            Kind::SUM,
-            CellName(Family::PositivePrices, i, 0),
-            CellName(Family::Bids, i, Limits::PRICE_PLACE),
-            CellName(Family::Shifts, 0, 0),
+        5 => NamedOrder(
+            SUM,
+            POSITIVE_PRICES,
+            i,
+            0,
+            BIDS,
+            i,
+            Limits::PRICE_PLACE,
+            SHIFTS,
+            0,
+            0,
         ),
-        6 => NamedOrder::Operate(
-            Kind::SUM,
-            CellName(Family::Doubles, i, 0),
-            CellName(Family::PositivePrices, i, 0),
-            CellName(Family::PositivePrices, i, 0),
+        6 => NamedOrder(
+            SUM,
+            DOUBLES,
+            i,
+            0,
+            POSITIVE_PRICES,
+            i,
+            0,
+            POSITIVE_PRICES,
+            i,
+            0,
         ),
-        7 => NamedOrder::Operate(
-            Kind::SUM,
-            CellName(Family::Keys, i, 0),
-            CellName(Family::Doubles, i, 0),
-            CellName(Family::Sides, i, 0),
-        ),
-        8 => NamedOrder::Operate(
-            Kind::SUM,
-            CellName(Family::Nexts, i, 0),
-            CellName(Family::Doubles, i, 0),
-            CellName(Family::Units, 0, 0),
-        ),
-        9 => NamedOrder::Operate(
-            Kind::EQUAL,
-            CellName(Family::Memberships, i, j),
-            CellName(Family::Bids, i, 0),
-            CellName(Family::PoolNumbers, j, 0),
-        ),
-        10 => NamedOrder::Operate(
-            Kind::PRODUCT,
-            CellName(Family::PoolSizes, i, j),
-            CellName(Family::Memberships, i, j),
-            CellName(Family::Sizes, i, 0),
-        ),
+        7 => NamedOrder(SUM, KEYS, i, 0, DOUBLES, i, 0, SIDES, i, 0),
+        8 => NamedOrder(SUM, NEXTS, i, 0, DOUBLES, i, 0, UNITS, 0, 0),
+        9 => NamedOrder(EQUAL, MEMBERSHIPS, i, j, BIDS, i, 0, POOL_NUMBERS, j, 0),
+        10 => NamedOrder(PRODUCT, POOL_SIZES, i, j, MEMBERSHIPS, i, j, SIZES, i, 0),
         11 => demands(n, m, i, q, j, r),
         12 => cuts(n, m, i, q, j, r),
         13 => sizes_before(n, m, i, q, j, r),
-        14 => ranks(n, m, Family::SizesBefore, Family::RanksBefore, i, q, j, r),
-        15 => NamedOrder::Operate(
-            Kind::SUM,
-            CellName(Family::SizesWith, i, j),
-            CellName(Family::SizesBefore, i, j),
-            CellName(Family::PoolSizes, i, j),
-        ),
-        16 => ranks(n, m, Family::SizesWith, Family::RanksWith, i, q, j, r),
-        17 => NamedOrder::Operate(
-            Kind::DIFFERENCE,
-            CellName(Family::Uses, i, 0),
-            CellName(Family::RanksWith, i, 0),
-            CellName(Family::RanksBefore, i, 0),
-        ),
+        14 => ranks(n, m, SIZES_BEFORE, RANKS_BEFORE, i, q, j, r),
+        15 => NamedOrder(SUM, SIZES_WITH, i, j, SIZES_BEFORE, i, j, POOL_SIZES, i, j),
+        16 => ranks(n, m, SIZES_WITH, RANKS_WITH, i, q, j, r),
+        17 => NamedOrder(DIFFERENCE, USES, i, 0, RANKS_WITH, i, 0, RANKS_BEFORE, i, 0),
         18 => amount_order(i, r),
         19 => placements(n, m, i, q, j, r),
         20 => slacks(n, m, i, q, j, r),
@@ -335,6 +295,6 @@ pub fn order_of(n: usize, m: usize, k: usize, i: usize, q: usize, j: usize, r: u
         22 => offer_order(i, r),
         23 => highest_offers(n, m, i, q, j, r),
         24 => price_order(i, r),
-        25.. => NamedOrder::Constant(CellName(Family::Temporaries, j, 0), 0),
+        25.. => NamedOrder(CONSTANT, TEMPORARIES, j, 0, 0, 0, 0, 0, 0, 0),
     }
 }

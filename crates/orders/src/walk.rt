@@ -1,28 +1,27 @@
 // The walk through the table of phases: how many orders it has, and the order at a position.
 ghost use mathlib.Core.Path.{_≡_};
 ghost use Prim.Native.Nat.{_*_, _≤_, _<_};
-ghost use lib.ListN.{length};
-ghost use Rattle.definitions.specs.Answers.{none};
-ghost use Rattle.definitions.specs.Calls.{countsRefusal};
-ghost use Rattle.definitions.specs.Limits.{bidLimit, poolLimit};
-ghost use Rattle.plan.specs.Phased.{Has, rowOf, rowSize};
-ghost use Rattle.plan.specs.Table.{phaseAt, phaseCount};
-ghost use Rattle.plan.specs.Plan.{plan, PlacedOrder};
-ghost use Rattle.layout.specs.Tables.{IsLayout};
-ghost use Rattle.orders.specs.Walk.{namedOf};
+ghost use lib.ListN.{length, getD};
+ghost use Rattle.definitions.specs.Limits.{bidLimit};
+ghost use Rattle.definitions.specs.declared.Order.the-variants.{Constant};
+ghost use Rattle.laws.specs.Sizes.{Counts};
+ghost use Rattle.plan.specs.Phased.{rowOf, rowSize};
+ghost use Rattle.plan.specs.Table.{scratchCount, phaseAt, phaseCount};
+ghost use Rattle.plan.specs.Plan.{plan};
 ghost use Rattle.orders.specs.Shaped.{IsShape, SmallPart, SmallShape, rowNumber, stretchLimit, rowLimit, phaseLimit};
-ghost use Rattle.orders.specs.Steps.{IsSize, AreSizes};
-ghost use Rattle.orders.specs.Entry.{planEntry};
-use crate::Entry;
+ghost use Rattle.orders.specs.Steps.{IsAt};
+ghost use Rattle.orders.specs.Tables.{IsSize, IsTables};
 use crate::cells::numbered_order;
-use crate::names::NamedOrder;
+use crate::layout::PHASES;
+use crate::layout::SIZES_OF_PHASES;
+use crate::layout::TABLES;
+use crate::layout::scratch_count;
 use crate::table::Columns;
-use crate::table::PHASES;
 use crate::table::Shape;
 use crate::table::order_of;
 use crate::table::part_of;
 use crate::table::shape_of;
-use plan::Family;
+use definitions::Order;
 
 // How many orders a part of a row has.
 fn area(p: Columns) -> usize
@@ -53,56 +52,47 @@ fn rows_size(rows: usize, row: usize) -> usize
     rows * row
 }
 
-// How many orders phase k has.
-fn phase_size(n: usize, m: usize, k: usize) -> usize
-    requires { ⌜ n ≤ bidLimit ⌝ }
-    requires { ⌜ m ≤ poolLimit ⌝ }
+// How many orders phase k has, for so many scratch cells.
+pub fn phase_size(n: usize, m: usize, scratch: usize, k: usize) -> usize
+    requires { ⌜ Counts n m ⌝ }
+    requires { ⌜ scratch ≡ scratchCount n m ⌝ }
     requires { ⌜ k < phaseCount ⌝ }
     ensures { λ r. ⌜ IsSize n m k r ⌝ }
 {
-    let s = shape_of(n, m, k);
+    let s = shape_of(n, m, scratch, k);
     rows_size(s.0, row_size(s))
 }
 
-// How many orders each phase has.
-pub fn sizes_of(n: usize, m: usize) -> [usize; PHASES]
-    requires { ⌜ n ≤ bidLimit ⌝ }
-    requires { ⌜ m ≤ poolLimit ⌝ }
-    ensures { λ r. ⌜ AreSizes n m r ⌝ }
-{
-    let mut sizes = [0; PHASES];
-    let mut k = 0;
-    while k < PHASES {
-        sizes[k] = phase_size(n, m, k);
-        k += 1;
-    }
-    sizes
-}
-
 // How many orders all phases have.
-pub fn length_of(n: usize, m: usize) -> usize
-    requires { ⌜ n ≤ bidLimit ⌝ }
-    requires { ⌜ m ≤ poolLimit ⌝ }
+pub fn length_of(n: usize, m: usize, tables: &[usize; TABLES]) -> usize
+    requires { ⌜ IsTables n m (now tables) ⌝ }
     ensures { λ r. ⌜ r ≡ length (plan n m) ⌝ }
 {
     let mut size = 0;
     let mut k = 0;
     while k < PHASES {
-        size += phase_size(n, m, k);
+        size += tables[SIZES_OF_PHASES + k];
         k += 1;
     }
     size
 }
 
-// The order at place x of row i of phase k, over names.
-fn in_row(n: usize, m: usize, k: usize, s: Shape, i: usize, x: usize) -> NamedOrder
-    requires { ⌜ n ≤ bidLimit ⌝ }
-    requires { ⌜ m ≤ poolLimit ⌝ }
+// The order at place x of row i of phase k.
+fn in_row(
+    n: usize,
+    m: usize,
+    tables: &[usize; TABLES],
+    k: usize,
+    s: Shape,
+    i: usize,
+    x: usize,
+) -> Order
+    requires { ⌜ IsTables n m (now tables) ⌝ }
     requires { ⌜ k < phaseCount ⌝ }
     requires { ⌜ IsShape (phaseAt n m k) s ⌝ }
     requires { ⌜ i < phaseAt n m k .rows ⌝ }
     requires { ⌜ x < rowSize (phaseAt n m k) ⌝ }
-    ensures { λ o. ⌜ Has (rowOf (phaseAt n m k) i) x (namedOf o) × PlacedOrder n m (namedOf o) ⌝ }
+    ensures { λ r. ⌜ IsAt n m (rowOf (phaseAt n m k) i) x r ⌝ }
 {
     let mut y = x;
     let mut q = 0;
@@ -110,39 +100,31 @@ fn in_row(n: usize, m: usize, k: usize, s: Shape, i: usize, x: usize) -> NamedOr
         let p = part_of(s, q);
         let size = area(p);
         if y < size {
-            return order_of(n, m, k, i, q, y / p.1, y % p.1);
+            let o = order_of(n, m, k, i, q, y / p.1, y % p.1);
+            return numbered_order(n, m, tables, o);
         }
         y -= size;
         q += 1;
     }
 }
 
-// The plan's order at a position, by tables made before: the cells of the families and the sizes of the phases.
-pub fn order_in(
-    n: usize,
-    m: usize,
-    starts: &[usize; Family::COUNT],
-    columns: &[usize; Family::COUNT],
-    sizes: &[usize; PHASES],
-    at: usize,
-) -> Entry
-    requires { ⌜ countsRefusal n m ≡ none ⌝ }
-    requires { ⌜ IsLayout n m (now starts) (now columns) ⌝ }
-    requires { ⌜ AreSizes n m (now sizes) ⌝ }
-    ensures { λ r. ⌜ r ≡ planEntry plan n m at ⌝ }
+// The plan's order at a position before its end.
+pub fn order_in(n: usize, m: usize, tables: &[usize; TABLES], at: usize) -> Order
+    requires { ⌜ IsTables n m (now tables) ⌝ }
+    requires { ⌜ at < length (plan n m) ⌝ }
+    ensures { λ r. ⌜ r ≡ getD (plan n m) at (Constant 0 0) ⌝ }
 {
+    let scratch = scratch_count(n, m, tables);
     let mut x = at;
     let mut k = 0;
-    while k < PHASES {
-        let size = sizes[k];
+    loop {
+        let size = tables[SIZES_OF_PHASES + k];
         if x < size {
-            let s = shape_of(n, m, k);
+            let s = shape_of(n, m, scratch, k);
             let row = row_size(s);
-            let o = in_row(n, m, k, s, x / row, x % row);
-            return Entry::Order(numbered_order(n, m, starts, columns, o));
+            return in_row(n, m, tables, k, s, x / row, x % row);
         }
         x -= size;
         k += 1;
     }
-    Entry::Nothing
 }

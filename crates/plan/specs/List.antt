@@ -13,7 +13,7 @@ use Rattle.definitions.specs.Outcome.{orderLimit}
 use Rattle.definitions.specs.Answers.{Refusal, none, refuse, unless}
 use Rattle.definitions.specs.Calls.{countsRefusal}
 use Rattle.definitions.specs.Plan.{total}
-use Rattle.laws.specs.Sizes.{counted}
+use Rattle.laws.specs.Sizes.{Counts, counted}
 use Rattle.plan.specs.Entries.{All, all-at}
 use Rattle.plan.specs.Plan.{plan, plan-bound, WritesNoInput, plan-writes-no-input}
 
@@ -38,13 +38,15 @@ limit-grows n m h k = go ((m + 1) ^ 6) (pow-le-pow-left {n = m + 1} {m = poolLim
     go : (power : ℕ) → power ≤ (poolLimit + 1) ^ 6 → n * (100 * n + 40 * power) + 10000 ≤ orderLimit bidLimit poolLimit
     go power p = let each : 100 * n + 40 * power ≤ 100 * bidLimit + 40 * (poolLimit + 1) ^ 6 = omega arith in omega (arith, mul-le-mul h each)
 
+-- at accepted counts
+pub length-limit : (n m : ℕ) → Counts n m → length (plan n m) ≤ orderLimit bidLimit poolLimit
+length-limit n m c = omega (arith, plan-length-limit n m (c .bids) (c .pools .least) (c .pools .most), limit-grows n m (c .bids) (c .pools .most))
+
 -- each position before the total has a next one
 pub total-limit : (n m : ℕ) → total plan n m ≤ orderLimit bidLimit poolLimit
 unfolding total
 total-limit n m = go (countsRefusal n m) refl
   where
     go : (r : Refusal) → countsRefusal n m ≡ r → unless r (length (plan n m)) 0 ≤ orderLimit bidLimit poolLimit
-    go none e =
-        let c = counted n m e in
-        omega (arith, plan-length-limit n m (c .bids) (c .pools .least) (c .pools .most), limit-grows n m (c .bids) (c .pools .most))
+    go none e = length-limit n m (counted n m e)
     go (refuse k x) e = omega arith

@@ -3,7 +3,7 @@
 use Prim.Native.Nat.{ℕ, _*_, _^_}
 use mathlib.Core.Path.{_≡_, refl, sym, ap, _∙_}
 use mathlib.Core.Bool.{Bool, true, _&&_}
-use mathlib.Core.List.{List, [], _∷_, map}
+use mathlib.Core.List.{List, [], _∷_}
 use lib.Dec.{eqb}
 use lib.ListN.{getD}
 use borrow.Author.Tests.{eqb-true}
@@ -53,9 +53,9 @@ number f = placeOf 0 0 0 0 f .0
 abbrev pub rowsOf : (n m : ℕ) → Family → ℕ
 rowsOf n m f = placeOf n m (m * m) (2 ^ m) f .1
 
--- its columns: they depend on m only
+-- its columns
 abbrev pub columnsOf : (n m : ℕ) → Family → ℕ
-columnsOf n m f = placeOf 0 m 0 0 f .2
+columnsOf n m f = placeOf n m (m * m) (2 ^ m) f .2
 
 -- the families by their numbers
 abbrev pub families : List Family
@@ -63,14 +63,6 @@ families =
     Bids ∷ Capacities ∷ Amounts ∷ Flows ∷ Prices ∷ Temporaries ∷ ZeroCells ∷ Units ∷ Shifts ∷ PoolNumbers
     ∷ Sides ∷ Sizes ∷ PositivePrices ∷ Doubles ∷ Keys ∷ Nexts ∷ Memberships ∷ PoolSizes ∷ Demands ∷ Subsets
     ∷ Cuts ∷ SizesBefore ∷ RanksBefore ∷ SizesWith ∷ RanksWith ∷ Uses ∷ Placements ∷ Slacks ∷ Offers ∷ HighestOffers ∷ []
-
--- the columns of each family, by its number
-abbrev pub columnTable : (m : ℕ) → List ℕ
-columnTable m = map (λ (f : Family). columnsOf 0 m f) families
-
--- the rows of each, for so many lines and sets of pools
-abbrev pub rowTable : (n m lines sets : ℕ) → List ℕ
-rowTable n m lines sets = map (λ (f : Family). placeOf n m lines sets f .1) families
 
 -- how many there are
 abbrev pub familyCount : ℕ

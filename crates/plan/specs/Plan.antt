@@ -30,7 +30,7 @@ power-small m k = pow-mono k
 
 -- at the limits every name has a cell of the sheet
 pub names-fit : (n m : ℕ) → n ≤ bidLimit → m ≤ poolLimit → firstScratch n m + scratchCount n m ≤ cellCount
-unfolding scratchCount
+unfolding scratchCount sumTo
 names-fit n m h k = omega (arith, power-small m k, mul-le-mul h k, mul-le-mul k k)
 
 module _ (n m : ℕ) where

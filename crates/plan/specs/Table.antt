@@ -2,11 +2,12 @@
 -- stand the names of its rows that the laws of the phases use.
 use mathlib.Core.Path.{_≡_, refl}
 use mathlib.Core.List.{List, [], _∷_, _++_}
-use Prim.Native.Nat.{ℕ, _+_, _*_, _%_, _/_, _^_}
+use Prim.Native.Nat.{ℕ, _+_, _-_, _*_, _%_, _/_, _^_}
 use native.Mathlib.Omega.{arith}
 use lib.ListN.{length}
+use Rattle.definitions.specs.Arithmetic.{sumTo}
 use Rattle.plan.specs.Orders.{OrderOn}
-use Rattle.plan.specs.Names.{Name, Demand, SizeBefore, RankBefore, SizeWith, RankWith, Placement}
+use Rattle.plan.specs.Names.{Temporaries, number, familyAt, familyCount, rowsOf, columnsOf, Name, Demand, SizeBefore, RankBefore, SizeWith, RankWith, Placement}
 use Rattle.plan.specs.Running.{subsetBlock}
 use Rattle.plan.specs.Blocks.{Block, unitBlock, shiftBlock, poolNumberBlock, sideBlock, sizeBlock, positivePriceBlock, doubleBlock, keyBlock, nextBlock, membershipBlock, poolSizeBlock, demandStart, demandTurn, cutStart, cutTurn, testOrder, gainTurn, sizeBeforeStart, costStart, costTurn, sizeWithBlock, useBlock, amountBlock, placementStart, placementTurn, slackBlock, restStart, restTurn, flowBlock, takeTurn, offerBlock, highestOfferStart, highestOfferTurn, priceBlock, zeroBlock}
 use Rattle.plan.specs.Loops.{loop}
@@ -142,9 +143,9 @@ module _ (n m : ℕ) where
 
   -- ---- the scratch
 
-  -- how many scratch cells have names
+  -- how many scratch cells have names: those of the families from the temporaries on
   unfoldable pub scratchCount : ℕ
-  scratchCount = 6 + 10 * n + 4 * (n * m) + 4 * m + 3 * 2 ^ m
+  scratchCount = sumTo (familyCount - number Temporaries) (λ k. let f = familyAt (number Temporaries + k) in rowsOf n m f * columnsOf n m f)
 
   -- 0 in each of them
   abbrev pub zeroPhase : Phase

@@ -1,8 +1,4 @@
 // The plan: the list of orders that clears every book of given counts; the list and what its run leaves stand in specs/.
-ghost use mathlib.Core.Path.{_≡_};
-ghost use Rattle.plan.specs.Names.{placeOf, number};
-use definitions::Limits;
-
 // The families of cells, in their order on the sheet: inputs, results, then scratch.
 pub enum Family {
     // Each bid's pool, price and quantity.
@@ -74,48 +70,3 @@ impl Family {
 
 // A family's place on the sheet: its number there, and how many rows and columns it has.
 pub struct Place(pub usize, pub usize, pub usize);
-
-// The place of a family on the sheet, for so many lines and sets of pools.
-pub fn place_of(n: usize, m: usize, lines: usize, sets: usize, f: Family) -> Place
-    ensures { λ r. ⌜ r ≡ placeOf n m lines sets f ⌝ }
-{
-    match f {
-        Family::Bids => Place(0, n, Limits::BID_NUMBERS),
-        Family::Capacities => Place(1, m, m),
-        Family::Amounts => Place(2, n, 1),
-        Family::Flows => Place(3, lines, 1),
-        Family::Prices => Place(4, m, Limits::POOL_RESULTS),
-        Family::Temporaries => Place(5, 3, 1),
-        Family::ZeroCells => Place(6, 1, 1),
-        Family::Units => Place(7, 1, 1),
-        Family::Shifts => Place(8, 1, 1),
-        Family::PoolNumbers => Place(9, m, 1),
-        Family::Sides => Place(10, n, 1),
-        Family::Sizes => Place(11, n, 1),
-        Family::PositivePrices => Place(12, n, 1),
-        Family::Doubles => Place(13, n, 1),
-        Family::Keys => Place(14, n, 1),
-        Family::Nexts => Place(15, n, 1),
-        Family::Memberships => Place(16, n, m),
-        Family::PoolSizes => Place(17, n, m),
-        Family::Demands => Place(18, m, 1),
-        Family::Subsets => Place(19, sets, 1),
-        Family::Cuts => Place(20, sets, 1),
-        Family::SizesBefore => Place(21, n, m),
-        Family::RanksBefore => Place(22, n, 1),
-        Family::SizesWith => Place(23, n, m),
-        Family::RanksWith => Place(24, n, 1),
-        Family::Uses => Place(25, n, 1),
-        Family::Placements => Place(26, m, 1),
-        Family::Slacks => Place(27, sets, 1),
-        Family::Offers => Place(28, n, 1),
-        Family::HighestOffers => Place(29, m, 1),
-    }
-}
-
-// The number of a family.
-pub fn number(f: Family) -> usize
-    ensures { λ r. ⌜ r ≡ number f ⌝ }
-{
-    place_of(0, 0, 0, 0, f).0
-}

@@ -7,8 +7,8 @@ ghost use Rattle.plan.specs.Plan.{plan};
 ghost use Rattle.writer.specs.Counts.{countsOf};
 use definitions::Verdict;
 use definitions::is_accepted;
+use orders::Position;
 use orders::write_orders;
-use position::Position;
 
 // The longest order, in bytes.
 const LONGEST_ORDER: usize = 8;

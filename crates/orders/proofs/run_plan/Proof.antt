@@ -1,4 +1,4 @@
--- `run_plan` meets its contract: the counts are judged first; if they pass, the tables are those of the plan, and all phases are run.
+-- `run_plan` meets its contract: the counts are judged first; if they pass, all phases are run.
 use mathlib.Core.Path.{_≡_, sym, _∙_}
 use borrow.Author.Needs.{needs}
 use Rattle.definitions.specs.Answers.{none}
@@ -7,7 +7,6 @@ use Rattle.laws.specs.Sizes.{counted}
 use Rattle.laws.specs.Search.{turned-away, let-through}
 use Rattle.plan.specs.Plan.{plan}
 use Rattle.plan.specs.Asking.{total-accepted, total-refused}
-use Rattle.layout.specs.Tables.{starts-accepted}
 use Rattle.orders.specs.Runs.{plan-stepped, plan-not-stepped}
 use Rattle.orders.proofs.run_plan.Statement.{statement}
 use Rattle.orders.proofs.run_plan.Tie as tie
@@ -27,36 +26,22 @@ returns c =
 passed : (c : tie.Else1) → let a = c .before .before .before .before .args in countsRefusal (a .n) (a .m) ≡ none
 passed c = let-through (c .before .before .judge-counts .ensures) (c .before .is-accepted .ensures) (c .if1 .left)
 
-starts-of-requires : tie.Need-starts-of-requires
-starts-of-requires c κs = search needs
-
-columns-of-requires : tie.Need-columns-of-requires
-columns-of-requires c κs = search needs
+tables-of-requires : tie.Need-tables-of-requires
+tables-of-requires c κs = counted _ _ (passed c)
 
 run-phases-requires : tie.Need-run-phases-requires
-run-phases-requires c κs =
-    let columns = c .before .before .before in
-    let starts = columns .before in
-    let a = starts .before .before .before .before .before .args in
-    let counts = passed (starts .before) in
-    let limits = counted (a .n) (a .m) counts in
-    let begin = starts-accepted (a .n) (a .m) (starts .starts-of .result) counts (starts .starts-of .ensures) in
-    (limits .bids, (limits .pools .most, record { begin = begin; columns-are = columns .columns-of .ensures }))
+run-phases-requires c κs = c .before .before .tables-of .ensures
 
 length-of-requires : tie.Need-length-of-requires
-length-of-requires c κs =
-    let run = c .before .before .before .before .before .before .before .before in
-    let a = run .before .before .before .before .args in
-    let limits = counted (a .n) (a .m) (passed run) in
-    (limits .bids, limits .pools .most)
+length-of-requires c κs = c .before .before .before .before .before .before .tables-of .ensures
 
 same-length : tie.Need-same-length
 same-length c = search needs
 
 returns-2 : tie.Need-returns-2
 returns-2 c =
-    let phases = c .before .before .before in
-    let run = phases .before .before .before .before .before .before in
+    let phases = c .before .before .before .before in
+    let run = phases .before .before .before .before in
     let a = run .before .before .before .before .args in (
       c .length-of .ensures ∙ sym (total-accepted plan (a .n) (a .m) (passed run)),
       phases .run-phases .ensures ∙ sym (plan-stepped plan (a .n) (a .m) (a .sheet .now) (passed run)),
@@ -69,8 +54,7 @@ run-plan-spec =
     judge-counts-requires
     is-accepted-requires
     returns
-    starts-of-requires
-    columns-of-requires
+    tables-of-requires
     run-phases-requires
     length-of-requires
     same-length

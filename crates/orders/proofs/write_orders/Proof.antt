@@ -1,4 +1,4 @@
--- `write_orders` meets its contract: the counts are judged first; if they pass, the tables are those of the plan.
+-- `write_orders` meets its contract: the counts are judged first; if they pass, the orders are written by the tables.
 use mathlib.Core.Path.{_≡_, sym, _∙_}
 use lib.ListN.{length}
 use borrow.Author.Needs.{needs}
@@ -7,7 +7,6 @@ use Rattle.definitions.specs.Calls.{countsRefusal}
 use Rattle.laws.specs.Sizes.{counted}
 use Rattle.laws.specs.Search.{turned-away, let-through}
 use Rattle.plan.specs.Plan.{plan}
-use Rattle.layout.specs.Tables.{starts-accepted}
 use Rattle.orders.specs.Writes.{counts-filled, counts-not-filled, slice-filled, slice-not-filled}
 use Rattle.orders.proofs.write_orders.Statement.{statement}
 use Rattle.orders.proofs.write_orders.Tie as tie
@@ -29,38 +28,22 @@ returns c =
 passed : (c : tie.Else1) → let a = c .before .before .before .before .args in countsRefusal (a .n) (a .m) ≡ none
 passed c = let-through (c .before .before .judge-counts .ensures) (c .before .is-accepted .ensures) (c .if1 .left)
 
-starts-of-requires : tie.Need-starts-of-requires
-starts-of-requires c κs = search needs
-
-columns-of-requires : tie.Need-columns-of-requires
-columns-of-requires c κs = search needs
-
-sizes-of-requires : tie.Need-sizes-of-requires
-sizes-of-requires c κs =
-    let run = c .before .before in
-    let a = run .before .before .before .before .args in
-    let limits = counted (a .n) (a .m) (passed run) in
-    (limits .bids, limits .pools .most)
+tables-of-requires : tie.Need-tables-of-requires
+tables-of-requires c κs = counted _ _ (passed c)
 
 write-from-requires : tie.Need-write-from-requires
-write-from-requires c κs =
-    let sizes = c .before .before .before .before in
-    let starts = sizes .before .before in
-    let a = starts .before .before .before .before .before .args in
-    let counts = passed (starts .before) in
-    let begin = starts-accepted (a .n) (a .m) (starts .starts-of .result) counts (starts .starts-of .ensures) in
-    (counts, (record { begin = begin; columns-are = sizes .before .columns-of .ensures }, sizes .sizes-of .ensures))
+write-from-requires c κs = c .before .before .tables-of .ensures
 
 same-length : tie.Need-same-length
 same-length c = search needs
 
 returns-2 : tie.Need-returns-2
 returns-2 c =
-    let run = c .before .before .before .before .before .before .before .before .before .before in
-    let a = run .before .before .before .before .args in
-    let written = c .before .before .write-from .ensures in (
-      written .0 ∙ sym (counts-filled plan (a .n) (a .m) (a .at) (length (a .out .now)) (passed run)),
-      written .1 ∙ sym (slice-filled plan (a .n) (a .m) (a .at) (a .out .now) (passed run)),
+    let written = c .before .before in
+    let run = written .before .before .before .before in
+    let a = run .before .before .before .before .args in (
+      written .write-from .ensures .0 ∙ sym (counts-filled plan (a .n) (a .m) (a .at) (length (a .out .now)) (passed run)),
+      written .write-from .ensures .1 ∙ sym (slice-filled plan (a .n) (a .m) (a .at) (a .out .now) (passed run)),
     )
 
 pub write-orders-spec : {M : Type 1} → statement M
@@ -70,9 +53,7 @@ write-orders-spec =
     judge-counts-requires
     is-accepted-requires
     returns
-    starts-of-requires
-    columns-of-requires
-    sizes-of-requires
+    tables-of-requires
     write-from-requires
     same-length
     returns-2)

@@ -1,35 +1,31 @@
 -- `cost_turn` meets its contract: the sum first, then the orders of a running minimum.
-use mathlib.Core.Path.{_≡_, ap, _∙_}
-use Prim.Native.Nat.{ℕ, _-_, _^_}
+use mathlib.Core.Path.{ap, _∙_}
+use Prim.Native.Nat.{ℕ, _-_}
 use native.Mathlib.Omega.{arith}
 use Rattle.plan.specs.Orders.{sum}
 use Rattle.plan.specs.Names.{Temporary, Cut, Subset}
 use Rattle.plan.specs.Subsets.{complement}
 use Rattle.plan.specs.Running.{lowered}
 use Rattle.plan.specs.Blocks.{costTurn}
-use Rattle.orders.specs.Walk.{nameOf, at-place, named-next}
+use Rattle.orders.specs.Walk.{nameAt, flatOf, at-place, named-next}
 use borrow.Author.Needs.{needs}
-use Rattle.layout.specs.Sets.{subsets-within}
 use Rattle.orders.proofs.blocks.cost_turn.Statement.{statement}
 use Rattle.orders.proofs.blocks.cost_turn.Tie as tie
 
 subset-count-requires : tie.Need-subset-count-requires
 subset-count-requires c κs = search needs
 
-sets : (c : tie.After-subset-count) → c .subset-count .result ≡ 2 ^ (c .before .before .args .m)
-sets c = subsets-within (c .subset-count .ensures .0) (omega arith)
-
 sub-last : tie.Need-sub-last
-sub-last c = omega (arith, sets c)
+sub-last c = omega (arith, c .subset-count .ensures .0)
 
 sub-rest : tie.Need-sub-rest
-sub-rest c = omega (arith, sets c)
+sub-rest c = omega (arith, c .subset-count .ensures .0)
 
 returns : tie.Need-returns
 returns c =
     let a = c .before .before .args in
-    ap (λ (k : ℕ). sum (Temporary 2) (Cut (a .s)) (Subset (k - 1 - c .before .before .args .s))) (sets c) ∙ at-place
-    (costTurn (a .m) (nameOf (a .d)) (a .s)) _ 0 (omega (arith, c .before .if1 .taken))
+    ap (λ (k : ℕ). flatOf (sum (Temporary 2) (Cut (a .s)) (Subset (k - 1 - a .s)))) (c .subset-count .ensures .0)
+    ∙ at-place (costTurn (a .m) (nameAt (a .u) (a .i) 0) (a .s)) _ 0 (omega (arith, c .before .if1 .taken))
 
 sub-lowered-order : tie.Need-sub-lowered-order
 sub-lowered-order c = search needs
@@ -41,7 +37,7 @@ returns-2 : tie.Need-returns-2
 returns-2 c =
     let a = c .before .before .args in
     c .lowered-order .ensures ∙ named-next (sum (Temporary 2) (Cut (a .s)) (Subset (complement (a .m) (a .s))))
-    (lowered (nameOf (a .d)) (Temporary 2)) _ (omega (arith, c .before .if1 .left))
+    (lowered (nameAt (a .u) (a .i) 0) (Temporary 2)) _ (omega (arith, c .before .if1 .left))
 
 pub cost-turn-spec : {M : Type 1} → statement M
 cost-turn-spec =

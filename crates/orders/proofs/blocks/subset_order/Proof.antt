@@ -3,7 +3,9 @@ use mathlib.Core.Path.{ap, _∙_}
 use Prim.Native.Nat.{ℕ}
 use Rattle.plan.specs.Orders.{sum}
 use Rattle.plan.specs.Names.{Subset}
-use Rattle.orders.specs.Walk.{nameOf, subset-first, subset-next}
+use Rattle.orders.specs.Walk.{nameAt, flatOf, subset-first, subset-next}
+use Rattle.orders.specs.Families.{numbers-at}
+use Rattle.orders.specs.declared.names.NamedOrder.{NamedOrder}
 use borrow.Author.Needs.{needs}
 use Rattle.orders.proofs.blocks.subset_order.Statement.{statement}
 use Rattle.orders.proofs.blocks.subset_order.Tie as tie
@@ -17,8 +19,10 @@ other-pools-requires c κs = search needs
 returns-2 : tie.Need-returns-2
 returns-2 c =
     let a = c .before .before .args in
-    ap (λ (k : ℕ). sum (Subset (a .s)) (Subset k) (nameOf (a .a))) (c .other-pools .ensures .0) ∙ subset-next (a .m) (a .s) (λ p. nameOf (a .a))
-    (c .before .if1 .left)
+    let cell = nameAt (a .g) (a .z) (a .w) in
+    numbers-at NamedOrder (λ g _. (1, 19, a .s, 0, 19, c .other-pools .result, 0, g, a .z, a .w)) (a .g) (a .g) (c .before .before .pre) (c .before .before .pre)
+    ∙ ap (λ (k : ℕ). flatOf (sum (Subset (a .s)) (Subset k) cell)) (c .other-pools .ensures .0)
+    ∙ subset-next (a .m) (a .s) (λ p. cell) (c .before .if1 .left)
 
 pub subset-order-spec : {M : Type 1} → statement M
 subset-order-spec = tie.close (tie.spec returns other-pools-requires returns-2)

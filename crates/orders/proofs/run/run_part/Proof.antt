@@ -10,10 +10,10 @@ use Rattle.orders.proofs.run.run_part.Statement.{statement}
 use Rattle.orders.proofs.run.run_part.Tie as tie
 
 abbrev Inv-loop : tie.InvT-loop
-Inv-loop n m starts columns k i q p sheet₀ j₀ sheet j = Ran n m (partAt (phaseAt n m k) q .block i) (p .0) sheet₀ sheet j
+Inv-loop n m tables k i q p sheet₀ j₀ sheet j = Ran n m (partAt (phaseAt n m k) q .block i) (p .0) sheet₀ sheet j
 
 abbrev μ-loop : tie.MeasureT-loop
-μ-loop n m starts columns k i q p sheet₀ j₀ sheet j = p .0 - j
+μ-loop n m tables k i q p sheet₀ j₀ sheet j = p .0 - j
 
 loop-holds : tie.Need-loop-holds Inv-loop μ-loop
 loop-holds c = ran-none _ _ _ _ _
@@ -22,8 +22,8 @@ run-turn-requires : tie.Need-run-turn-requires Inv-loop μ-loop
 run-turn-requires c κs =
     let then = c .before in
     let p = then .before .before .before .before .pre in
-    let part = p .1 .1 .1 .1 in
-    (p .0, (p .1 .0, (p .1 .1 .0, (p .1 .1 .1 .0, (part .0, (omega (arith, part .1 .columns, then .if1 .taken), part .1 .turn))))))
+    let part = p .1 .1 in
+    (p .0, (p .1 .0, (part .0, (omega (arith, part .1 .columns, then .if1 .taken), part .1 .turn))))
 
 add-j : tie.Need-add-j Inv-loop μ-loop
 add-j c = omega arith
@@ -52,7 +52,7 @@ returns c =
     let a = s .args in
     let f = partAt (phaseAt (a .n) (a .m) (a .k)) (a .q) .block (a .i) in
     ran-all (a .n) (a .m) f _ _ _ _ (at .loop .inv) (c .if1 .left)
-    ∙ ap (λ (c : ℕ). ranOf (a .n) (a .m) (loop c f) (a .sheet .now)) (s .pre .1 .1 .1 .1 .1 .columns)
+    ∙ ap (λ (c : ℕ). ranOf (a .n) (a .m) (loop c f) (a .sheet .now)) (s .pre .1 .1 .1 .columns)
 
 pub run-part-spec : {M : Type 1} → statement M
 run-part-spec =

@@ -13,16 +13,16 @@ use Rattle.orders.proofs.run.run_phases.Statement.{statement}
 use Rattle.orders.proofs.run.run_phases.Tie as tie
 
 abbrev Inv-loop : tie.InvT-loop
-Inv-loop n m starts columns sheet₀ k₀ sheet k = Ran n m (λ u. allRows (phaseAt n m u)) phaseCount sheet₀ sheet k
+Inv-loop n m tables sheet₀ k₀ sheet k = Ran n m (λ u. allRows (phaseAt n m u)) phaseCount sheet₀ sheet k
 
 abbrev μ-loop : tie.MeasureT-loop
-μ-loop n m starts columns sheet₀ k₀ sheet k = phaseCount - k
+μ-loop n m tables sheet₀ k₀ sheet k = phaseCount - k
 
 loop-holds : tie.Need-loop-holds Inv-loop μ-loop
 loop-holds c = ran-none _ _ _ _ _
 
 run-phase-requires : tie.Need-run-phase-requires Inv-loop μ-loop
-run-phase-requires c κs = let p = c .before .before .before .before .pre in (p .0, (p .1 .0, (p .1 .1, omega arith)))
+run-phase-requires c κs = (c .before .before .before .before .pre, omega arith)
 
 add-k : tie.Need-add-k Inv-loop μ-loop
 add-k c = omega arith

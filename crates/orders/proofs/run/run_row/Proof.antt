@@ -16,10 +16,10 @@ use Rattle.orders.proofs.run.run_row.Statement.{statement}
 use Rattle.orders.proofs.run.run_row.Tie as tie
 
 abbrev Inv-loop : tie.InvT-loop
-Inv-loop n m starts columns k i s sheet₀ q₀ sheet q = Ran n m (λ u. stretch i (partAt (phaseAt n m k) u)) (s .1) sheet₀ sheet q
+Inv-loop n m tables k i s sheet₀ q₀ sheet q = Ran n m (λ u. stretch i (partAt (phaseAt n m k) u)) (s .1) sheet₀ sheet q
 
 abbrev μ-loop : tie.MeasureT-loop
-μ-loop n m starts columns k i s sheet₀ q₀ sheet q = s .1 - q
+μ-loop n m tables k i s sheet₀ q₀ sheet q = s .1 - q
 
 loop-holds : tie.Need-loop-holds Inv-loop μ-loop
 loop-holds c = ran-none _ _ _ _ _
@@ -33,10 +33,10 @@ run-part-requires c κs =
     let at = then .before .before in
     let s = at .before .before in
     let p = s .pre in
-    let shape = p .1 .1 .1 .1 .0 in
+    let shape = p .1 .1 .0 in
     let l : at .loop .q < length (phaseAt (s .args .n) (s .args .m) (s .args .k) .parts) = omega (arith, shape .parts, then .if1 .taken) in
     let facts = part-facts _ _ shape _ l _ (c .before .part-of .ensures) in
-    (p .0, (p .1 .0, (p .1 .1 .0, (p .1 .1 .1 .0, (record { row = p .1 .1 .1 .1 .1; part = l }, facts)))))
+    (p .0, (p .1 .0, (record { row = p .1 .1 .1; part = l }, facts)))
 
 add-q : tie.Need-add-q Inv-loop μ-loop
 add-q c = omega arith
@@ -68,7 +68,7 @@ returns c =
     let p = phaseAt (a .n) (a .m) (a .k) in
     let f : ℕ → List (OrderOn Name) = λ u. stretch (a .i) (partAt p u) in
     ran-all (a .n) (a .m) f _ _ _ _ (at .loop .inv) (c .if1 .left)
-    ∙ ap (λ (c : ℕ). ranOf (a .n) (a .m) (loop c f) (a .sheet .now)) (s .pre .1 .1 .1 .1 .0 .parts)
+    ∙ ap (λ (c : ℕ). ranOf (a .n) (a .m) (loop c f) (a .sheet .now)) (s .pre .1 .1 .0 .parts)
     ∙ ap (λ (l : List (OrderOn Name)). ranOf (a .n) (a .m) l (a .sheet .now)) (sym (row-loop p (a .i)))
 
 pub run-row-spec : {M : Type 1} → statement M

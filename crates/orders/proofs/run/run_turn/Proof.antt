@@ -1,33 +1,32 @@
 -- `run_turn` meets its contract. The loop has run the first r orders of the block.
-use mathlib.Core.Path.{sym, subst}
 use Prim.Native.Nat.{_-_}
 use native.Mathlib.Omega.{arith}
 use borrow.Author.Needs.{needs}
 use Rattle.plan.specs.Phased.{partAt}
 use Rattle.plan.specs.Table.{phaseAt}
-use Rattle.plan.specs.Plan.{PlacedOrder}
-use Rattle.orders.specs.Shaped.{InPhase, order-placed}
+use Rattle.orders.specs.Cells.{order-ready}
+use Rattle.orders.specs.Shaped.{InPhase}
 use Rattle.orders.specs.Runs.{Done, done-none, done-all, done-same-length, next-order}
 use Rattle.orders.proofs.run.run_turn.Statement.{statement}
 use Rattle.orders.proofs.run.run_turn.Tie as tie
 
 abbrev Inv-loop : tie.InvT-loop
-Inv-loop n m starts columns k i q j turn sheet₀ r₀ sheet r = Done n m (partAt (phaseAt n m k) q .block i j) sheet₀ sheet r
+Inv-loop n m tables k i q j turn sheet₀ r₀ sheet r = Done n m (partAt (phaseAt n m k) q .block i j) sheet₀ sheet r
 
 abbrev μ-loop : tie.MeasureT-loop
-μ-loop n m starts columns k i q j turn sheet₀ r₀ sheet r = turn - r
+μ-loop n m tables k i q j turn sheet₀ r₀ sheet r = turn - r
 
 place : (c : tie.In-loop Inv-loop μ-loop)
     → let a = c .before .before .before .args in InPhase (phaseAt (a .n) (a .m) (a .k)) (a .i) (a .q) (a .j) (c .before .loop .r)
 place c =
-    let p = c .before .before .before .pre .1 .1 .1 .1 in
+    let p = c .before .before .before .pre .1 .1 in
     record { row = p .0 .row; part = p .0 .part; column = p .1 .0; place = omega (arith, p .1 .1, c .loop-test .taken) }
 
 loop-holds : tie.Need-loop-holds Inv-loop μ-loop
 loop-holds c = done-none _ _ _ _
 
 order-of-requires : tie.Need-order-of-requires Inv-loop μ-loop
-order-of-requires c κs = let p = c .before .before .before .pre in (p .0, (p .1 .0, (p .1 .1 .1 .0, place c)))
+order-of-requires c κs = let p = c .before .before .before .pre in (p .0 .counts, (p .1 .0, place c))
 
 numbered-order-requires : tie.Need-numbered-order-requires Inv-loop μ-loop
 numbered-order-requires c κs =
@@ -35,8 +34,7 @@ numbered-order-requires c κs =
     let a = s .args in
     let p = s .pre in
     let r = c .before .before .loop .r in
-    let placed = order-placed (a .n) (a .m) (a .k) (a .i) (a .q) (a .j) r (p .0) (p .1 .0) (p .1 .1 .1 .0) (place (c .before)) in
-    (p .1 .1 .0, subst (PlacedOrder (a .n) (a .m)) (sym (c .order-of .ensures)) placed)
+    (p .0 .tables .layout, order-ready (a .n) (a .m) (a .k) (a .i) (a .q) (a .j) r _ (p .0 .counts) (p .1 .0) (place (c .before)) (c .order-of .ensures))
 
 step-requires : tie.Need-step-requires Inv-loop μ-loop
 step-requires c κs = search needs
@@ -66,7 +64,7 @@ returns c =
     let s = c .before .before .before in
     let a = s .args in
     let fair = partAt (phaseAt (a .n) (a .m) (a .k)) (a .q) .fair (a .i) (a .j) in
-    done-all (a .n) (a .m) _ _ _ _ (c .before .loop .inv) (omega (arith, c .loop-test .left, s .pre .1 .1 .1 .1 .1 .1, fair))
+    done-all (a .n) (a .m) _ _ _ _ (c .before .loop .inv) (omega (arith, c .loop-test .left, s .pre .1 .1 .1 .1, fair))
 
 pub run-turn-spec : {M : Type 1} → statement M
 run-turn-spec =

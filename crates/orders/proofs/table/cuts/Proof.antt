@@ -16,13 +16,13 @@ subset-order-requires c κs = search needs
 
 returns : tie.Need-returns
 returns c = let a = c .before .before .before .args in
-    sum-at (cutPhase (a .n) (a .m)) (a .i) (a .q) 0 (a .j) (a .r) (a .m) Demand (c .before .before .if1 .taken) (c .before .before .before .pre .1)
+    sum-at (cutPhase (a .n) (a .m)) (a .i) (a .q) 0 (a .j) (a .r) (a .m) Demand (c .before .before .if1 .taken) (c .before .before .before .pre)
     refl refl _ _ (c .subset-order .ensures) (ap Demand (c .before .lowest-pool .ensures .0))
 
 returns-2 : tie.Need-returns-2
 returns-2 c = let s = c .before .before in
     let a = s .args in
-    head-of (cutPhase (a .n) (a .m)) (a .i) (a .q) 1 (a .j) (a .r) (omega (arith, c .before .if1 .left, s .pre .1 .part)) (c .if2 .taken)
+    head-of (cutPhase (a .n) (a .m)) (a .i) (a .q) 1 (a .j) (a .r) (omega (arith, c .before .if1 .left, s .pre .part)) (c .if2 .taken)
 
 sub-cut-turn : tie.Need-sub-cut-turn
 sub-cut-turn c = search needs
@@ -30,7 +30,7 @@ sub-cut-turn c = search needs
 div-cut-turn : tie.Need-div-cut-turn
 div-cut-turn c = let s = c .before .before in
     let a = s .args in
-    omega (arith, cut-pools (a .n) (a .m) (a .i) (a .q) (a .j) (a .r) (c .before .if1 .left) (c .if2 .left) (s .pre .1))
+    omega (arith, cut-pools (a .n) (a .m) (a .i) (a .q) (a .j) (a .r) (c .before .if1 .left) (c .if2 .left) (s .pre))
 
 sub-cut-turn-2 : tie.Need-sub-cut-turn-2
 sub-cut-turn-2 c = search needs
@@ -38,7 +38,7 @@ sub-cut-turn-2 c = search needs
 rem-cut-turn : tie.Need-rem-cut-turn
 rem-cut-turn c = let s = c .before .before in
     let a = s .args in
-    omega (arith, cut-pools (a .n) (a .m) (a .i) (a .q) (a .j) (a .r) (c .before .if1 .left) (c .if2 .left) (s .pre .1))
+    omega (arith, cut-pools (a .n) (a .m) (a .i) (a .q) (a .j) (a .r) (c .before .if1 .left) (c .if2 .left) (s .pre))
 
 cut-turn-requires : tie.Need-cut-turn-requires
 cut-turn-requires c κs = search needs
@@ -46,7 +46,7 @@ cut-turn-requires c κs = search needs
 returns-3 : tie.Need-returns-3
 returns-3 c = let s = c .before .before .before in
     let a = s .args in
-    c .cut-turn .ensures ∙ cut-at (a .n) (a .m) (a .i) (a .q) (a .j) (a .r) (c .before .before .if1 .left) (c .before .if2 .left) (s .pre .1)
+    c .cut-turn .ensures ∙ cut-at (a .n) (a .m) (a .i) (a .q) (a .j) (a .r) (c .before .before .if1 .left) (c .before .if2 .left) (s .pre)
 
 pub cuts-spec : {M : Type 1} → statement M
 cuts-spec =

@@ -2,7 +2,7 @@
 use mathlib.Core.Path.{refl, _∙_}
 use native.Mathlib.Omega.{arith}
 use borrow.Author.Needs.{needs}
-use Rattle.orders.specs.Walk.{named}
+use Rattle.orders.specs.Walk.{made}
 use Rattle.plan.specs.Table.{linePhase}
 use Rattle.orders.specs.Shaped.{in-part, of-part, one-of, past, positive-right}
 use Rattle.orders.proofs.table.lines.Statement.{statement}
@@ -38,7 +38,7 @@ returns-3 c = let s = c .before in
     one-of (linePhase (a .n) (a .m)) (a .i) (a .q) 2 (a .j) (a .r) (c .match .keys3) (s .pre) refl
 
 returns-4 : tie.Need-returns-4
-unfolding named
+unfolding made
 returns-4 c = let s = c .before .before in
     let a = s .args in
     c .take-turn .ensures ∙ one-of (linePhase (a .n) (a .m)) (a .i) (a .q) 3 (a .j) (a .r)

@@ -9,7 +9,7 @@ use Rattle.orders.proofs.table.sizes_before.Statement.{statement}
 use Rattle.orders.proofs.table.sizes_before.Tie as tie
 
 returns : tie.Need-returns
-returns c = let a = c .before .args in one-of (sizeBeforePhase (a .n) (a .m)) (a .i) (a .q) 0 (a .j) (a .r) (c .if1 .taken) (c .before .pre .1) refl
+returns c = let a = c .before .args in one-of (sizeBeforePhase (a .n) (a .m)) (a .i) (a .q) 0 (a .j) (a .r) (c .if1 .taken) (c .before .pre) refl
 
 test-order-requires : tie.Need-test-order-requires
 test-order-requires c κs = search needs
@@ -18,7 +18,7 @@ returns-2 : tie.Need-returns-2
 returns-2 c = let s = c .before .before .before in
     let a = s .args in
     c .test-order .ensures ∙ head-of (sizeBeforePhase (a .n) (a .m)) (a .i) (a .q) 1 (a .j) (a .r)
-    (omega (arith, c .before .before .if1 .left, s .pre .1 .part)) (c .before .if2 .taken)
+    (omega (arith, c .before .before .if1 .left, s .pre .part)) (c .before .if2 .taken)
 
 sub-gain-turn : tie.Need-sub-gain-turn
 sub-gain-turn c = search needs
@@ -32,11 +32,11 @@ gain-turn-requires c κs = search needs
 returns-3 : tie.Need-returns-3
 returns-3 c = let s = c .before .before .before in
     let a = s .args in
-    let e = in-part (sizeBeforePhase (a .n) (a .m)) (a .i) (a .q) 1 (a .j) (a .r) (omega (arith, c .before .before .if1 .left, s .pre .1 .part))
-    (s .pre .1) in
+    let e = in-part (sizeBeforePhase (a .n) (a .m)) (a .i) (a .q) 1 (a .j) (a .r) (omega (arith, c .before .before .if1 .left, s .pre .part))
+    (s .pre) in
     c .gain-turn .ensures
     ∙ loop-of (sizeBeforePhase (a .n) (a .m)) (a .i) (a .q) 1 (a .j) (a .r) (a .m) 2 (testOrder (a .i) (a .j)) (gainTurn (a .i) (a .j))
-    (omega (arith, c .before .before .if1 .left, s .pre .1 .part)) (omega (arith, c .before .if2 .left)) refl (λ p. refl)
+    (omega (arith, c .before .before .if1 .left, s .pre .part)) (omega (arith, c .before .if2 .left)) refl (λ p. refl)
     (omega (arith, c .before .if2 .left, e .1))
 
 pub sizes-before-spec : {M : Type 1} → statement M

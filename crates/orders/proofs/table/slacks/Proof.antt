@@ -17,11 +17,11 @@ subset-order-requires c κs = search needs
 returns : tie.Need-returns
 returns c = let a = c .before .before .before .args in
     sum-at (slackPhase (a .n) (a .m)) (a .i) (a .q) 0 (a .j) (a .r) (a .m) Placement (c .before .before .if1 .taken)
-    (c .before .before .before .pre .1) refl refl _ _ (c .subset-order .ensures) (ap Placement (c .before .lowest-pool .ensures .0))
+    (c .before .before .before .pre) refl refl _ _ (c .subset-order .ensures) (ap Placement (c .before .lowest-pool .ensures .0))
 
 returns-2 : tie.Need-returns-2
 returns-2 c = let a = c .before .args in
-    one-of (slackPhase (a .n) (a .m)) (a .i) (a .q) 1 (a .j) (a .r) (omega (arith, c .if1 .left, c .before .pre .1 .part)) (c .before .pre .1) refl
+    one-of (slackPhase (a .n) (a .m)) (a .i) (a .q) 1 (a .j) (a .r) (omega (arith, c .if1 .left, c .before .pre .part)) (c .before .pre) refl
 
 pub slacks-spec : {M : Type 1} → statement M
 slacks-spec =

@@ -1,22 +1,23 @@
 -- `in_row` meets its contract. The loop has passed the first q parts.
-use mathlib.Core.Path.{_≡_, sym, subst, _∙_}
+use mathlib.Core.Path.{_≡_, _∙_}
 use Prim.Native.Nat.{_-_, _*_, _/_, _%_, _<_}
 use native.Mathlib.Omega.{arith}
 use lib.ListN.{length}
 use borrow.Author.Needs.{needs}
 use Rattle.plan.specs.Phased.{partSize}
 use Rattle.plan.specs.Table.{Phase, phaseAt}
-use Rattle.plan.specs.Plan.{PlacedOrder}
-use Rattle.orders.specs.Shaped.{positive-right, InPhase, order-placed}
+use Rattle.orders.specs.Walk.{namedOf}
+use Rattle.orders.specs.Cells.{order-ready}
+use Rattle.orders.specs.Shaped.{positive-right, InPhase, flat-order}
 use Rattle.orders.specs.Steps.{PartsPassed, parts-none, parts-one, part-left, found, found-has, PartFacts, part-facts}
 use Rattle.orders.proofs.walk.in_row.Statement.{statement}
 use Rattle.orders.proofs.walk.in_row.Tie as tie
 
 abbrev Inv-loop : tie.InvT-loop
-Inv-loop n m k s i x y₀ q₀ y q = PartsPassed (phaseAt n m k) x y q
+Inv-loop n m tables k s i x y₀ q₀ y q = PartsPassed (phaseAt n m k) x y q
 
 abbrev μ-loop : tie.MeasureT-loop
-μ-loop n m k s i x y₀ q₀ y q = length (phaseAt n m k .parts) - q
+μ-loop n m tables k s i x y₀ q₀ y q = length (phaseAt n m k .parts) - q
 
 -- the phase, for a turn of the loop
 abbrev phaseOf : tie.At-loop Inv-loop μ-loop → Phase
@@ -24,12 +25,12 @@ phaseOf c = phaseAt (c .before .args .n) (c .before .args .m) (c .before .args .
 
 -- part q is one of its parts
 left : (c : tie.At-loop Inv-loop μ-loop) → c .loop .q < length (phaseOf c .parts)
-left c = part-left _ (c .before .args .x) (c .loop .y) (c .loop .q) (c .loop .inv) (c .before .pre .1 .1 .1 .1 .1)
+left c = part-left _ (c .before .args .x) (c .loop .y) (c .loop .q) (c .loop .inv) (c .before .pre .1 .1 .1 .1)
 
 facts : (c : tie.After-part-of Inv-loop μ-loop) → PartFacts (phaseOf (c .before)) (c .before .loop .q) (c .part-of .result)
 facts c =
     let start = c .before .before in
-    part-facts _ (start .args .s) (start .pre .1 .1 .1 .0) (c .before .loop .q) (left (c .before)) _ (c .part-of .ensures)
+    part-facts _ (start .args .s) (start .pre .1 .1 .0) (c .before .loop .q) (left (c .before)) _ (c .part-of .ensures)
 
 sized : (c : tie.After-area Inv-loop μ-loop) → c .area .result ≡ partSize (phaseOf (c .before .before)) (c .before .before .loop .q)
 sized c = c .area .ensures .0 ∙ facts (c .before) .size
@@ -51,7 +52,7 @@ module _ (c : tie.After-area Inv-loop μ-loop) (inside : c .before .before .loop
   place : InPhase (phaseOf at) (at .before .args .i) (at .loop .q) (at .loop .y / c .before .part-of .result .1) (at .loop .y % c .before .part-of .result .1)
   place =
       let a = at .before .args in
-      let p = at .before .pre .1 .1 .1 .1 in
+      let p = at .before .pre .1 .1 .1 in
       found _ (a .x) (at .loop .y) (at .loop .q) (at .loop .inv) (p .1) (a .i) _ (p .0) (facts (c .before) .turn) within
 
 loop-holds : tie.Need-loop-holds Inv-loop μ-loop
@@ -70,26 +71,40 @@ rem-order-of : tie.Need-rem-order-of Inv-loop μ-loop
 rem-order-of c = some-turn (c .before .before .before) (c .before .before .if1 .taken)
 
 order-of-requires : tie.Need-order-of-requires Inv-loop μ-loop
-order-of-requires c κs = (omega arith, (omega arith, (omega arith, place (c .before .before .before) (c .before .before .if1 .taken))))
+order-of-requires c κs =
+    let area = c .before .before .before in
+    let p = area .before .before .before .pre in
+    (p .0 .counts, (p .1 .0, place area (c .before .before .if1 .taken)))
+
+numbered-order-requires : tie.Need-numbered-order-requires Inv-loop μ-loop
+numbered-order-requires c κs =
+    let area = c .before .before .before .before in
+    let turn = area .before .before in
+    let a = turn .before .args in
+    let p = turn .before .pre in
+    (p .0 .tables .layout, order-ready (a .n) (a .m) (a .k) (a .i) (turn .loop .q) _ _ _ (p .0 .counts) (p .1 .0) (place area (c .before .before .before .if1 .taken)) (c .order-of .ensures))
 
 returns : tie.Need-returns Inv-loop μ-loop
 returns c =
-    let area = c .before .before .before .before in
-    let inside = c .before .before .before .if1 .taken in
+    let made = c .before in
+    let area = made .before .before .before .before in
+    let inside = made .before .before .before .if1 .taken in
     let turn = area .before .before in
     let loop = turn .loop in
     let a = turn .before .args in
-    let p = turn .before .pre in
-    let row = p .1 .1 .1 .1 in
-    let placed = order-placed (a .n) (a .m) (a .k) (a .i) (loop .q) _ _ (p .0) (p .1 .0) (p .1 .1 .0) (place area inside) in (
-      found-has _ (a .x) (loop .y) (loop .q) (loop .inv) (row .1) (a .i) _ (row .0) (facts (area .before) .turn) (within area inside) _ (c .order-of .ensures),
-      subst (PlacedOrder (a .n) (a .m)) (sym (c .order-of .ensures)) placed,
-    )
+    let row = turn .before .pre .1 .1 .1 in
+    record {
+      order = namedOf (made .order-of .result);
+      there =
+          found-has _ (a .x) (loop .y) (loop .q) (loop .inv) (row .1) (a .i) _ (row .0) (facts (area .before) .turn) (within area inside) _
+          (flat-order _ (a .i) (loop .q) _ _ _ (made .order-of .ensures));
+      is = c .numbered-order .ensures;
+    }
 
 add-q : tie.Need-add-q Inv-loop μ-loop
 add-q c =
     let turn = c .before .before .before in
-    let shape = turn .before .pre .1 .1 .1 .0 in
+    let shape = turn .before .pre .1 .1 .0 in
     omega (arith, left turn, shape .parts, shape .small .1)
 
 loop-less : tie.Need-loop-less Inv-loop μ-loop
@@ -98,7 +113,7 @@ loop-less c = omega (arith, left (c .before .before .before))
 loop-again : tie.Need-loop-again Inv-loop μ-loop
 loop-again c =
     let loop = c .before .before .before .loop in
-    parts-one _ _ (loop .y) (loop .q) (loop .inv) (c .before .before .before .before .pre .1 .1 .1 .1 .1) _ (sized (c .before)) (c .if1 .left)
+    parts-one _ _ (loop .y) (loop .q) (loop .inv) (c .before .before .before .before .pre .1 .1 .1 .1) _ (sized (c .before)) (c .if1 .left)
 
 pub in-row-spec : {M : Type 1} → statement M
 in-row-spec =
@@ -112,6 +127,7 @@ in-row-spec =
     div-order-of
     rem-order-of
     order-of-requires
+    numbered-order-requires
     returns
     add-q
     loop-less

@@ -1,28 +1,40 @@
 -- `length_of` meets its contract. The loop has counted the first k phases.
 use mathlib.Core.Path.{sym, _∙_}
-use Prim.Native.Nat.{_-_}
+use Prim.Native.Nat.{_+_, _-_}
+use lib.ListN.{getD}
 use native.Mathlib.Omega.{arith}
 use borrow.Author.Needs.{needs}
 use Rattle.plan.specs.Table.{table, phaseAt, phaseCount, table-length}
 use Rattle.plan.specs.Plan.{plan-length}
+use Rattle.orders.specs.Tables.{sizesFrom, IsSize}
 use Rattle.orders.specs.Steps.{PhasesCounted, count-none, count-one, count-all}
 use Rattle.orders.proofs.walk.length_of.Statement.{statement}
 use Rattle.orders.proofs.walk.length_of.Tie as tie
 
 abbrev Inv-loop : tie.InvT-loop
-Inv-loop n m size₀ k₀ size k = PhasesCounted (table n m) size k
+Inv-loop n m tables size₀ k₀ size k = PhasesCounted (table n m) size k
 
 abbrev μ-loop : tie.MeasureT-loop
-μ-loop n m size₀ k₀ size k = phaseCount - k
+μ-loop n m tables size₀ k₀ size k = phaseCount - k
 
 loop-holds : tie.Need-loop-holds Inv-loop μ-loop
 loop-holds c = count-none _
 
-phase-size-requires : tie.Need-phase-size-requires Inv-loop μ-loop
-phase-size-requires c κs = search needs
-
 add-size : tie.Need-add-size Inv-loop μ-loop
-add-size c = let at = c .before .before in omega (arith, at .loop .inv .bound, c .phase-size .ensures .small)
+add-size c = search needs
+
+mul-size : tie.Need-mul-size Inv-loop μ-loop
+mul-size c = search needs
+
+element-copy-out-size : tie.Need-element-copy-out-size Inv-loop μ-loop
+element-copy-out-size c = omega (arith, c .before .before .pre .tables .layout .long)
+
+-- the entry read is the size of phase k
+sized : (c : tie.After-size Inv-loop μ-loop) → let s = c .before .before .before in IsSize (s .args .n) (s .args .m) (c .before .before .loop .k) (getD (s .args .tables .now) (sizesFrom + c .before .before .loop .k) 0)
+sized c = c .before .before .before .pre .tables .sizes (c .before .before .loop .k) (omega arith)
+
+add-size-2 : tie.Need-add-size-2 Inv-loop μ-loop
+add-size-2 c = let at = c .before .before in omega (arith, at .loop .inv .bound, sized c .small)
 
 add-k : tie.Need-add-k Inv-loop μ-loop
 add-k c = omega arith
@@ -35,7 +47,7 @@ unfolding phaseAt
 loop-again c =
     let at = c .before .before in
     let a = at .before .args in
-    let size = c .phase-size .ensures in
+    let size = sized c in
     count-one (table (a .n) (a .m)) _ _ _ (at .loop .inv) (omega (arith, table-length (a .n) (a .m))) (size .is) (size .small)
 
 returns : tie.Need-returns Inv-loop μ-loop
@@ -51,8 +63,10 @@ length-of-spec =
     Inv-loop
     μ-loop
     loop-holds
-    phase-size-requires
     add-size
+    mul-size
+    element-copy-out-size
+    add-size-2
     add-k
     loop-less
     loop-again

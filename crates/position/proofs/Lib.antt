@@ -1,2 +1,0 @@
--- What the proof of asking at a position cites.
-pub mod Answers

@@ -1,2 +1,0 @@
--- What the contracts of positions cite: what each answer says.
-pub mod Answer
