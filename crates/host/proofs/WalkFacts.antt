@@ -6,8 +6,8 @@ use mathlib.Core.List.{[], _∷_, _++_}
 use lib.ListN.{replicate}
 use Rattle.definitions.specs.Bytes.{groups, numberBytes, orderBytes, ordersBytes}
 use Rattle.definitions.specs.Plan.{fitting, ordersWritten, bytesWritten, writtenCounts, lowestFirst, bytesRefusal, bytesSlice, countsSlice}
-use Rattle.writer.specs.Walk.{walk}
-use Rattle.writer.proofs.WalkFacts.{three, firstBytes, otherBytes}
+use Rattle.walk.specs.Walk.{walk}
+use Rattle.walk.proofs.WalkFacts.{three, firstBytes, otherBytes}
 use Rattle.host.specs.Numbers.{held, countsHeld}
 use Rattle.host.specs.Walk.{Lent, hostReply}
 

@@ -15,8 +15,8 @@ use Rattle.definitions.specs.Plan.{lowestFirst, Written, writtenCounts, countBy
 use Rattle.laws.specs.Sizes.{counted}
 use Rattle.plan.specs.Plan.{plan}
 use Rattle.plan.specs.List.{plan-length-limit}
-use Rattle.writer.specs.Calls.{write-within}
-use Rattle.writer.specs.Sequence.{orders-within, bytes-within}
+use Rattle.orders.specs.Calls.{write-within}
+use Rattle.walk.specs.Sequence.{orders-within, bytes-within}
 use Rattle.host.specs.Calls.{total-counts, total-given, bytes-writing, counts-given}
 
 -- the number that bytes hold, the lowest first

@@ -13,9 +13,9 @@ use Rattle.definitions.specs.Calls.{countsRefusal}
 use Rattle.definitions.specs.Machine.{IsSheet}
 use Rattle.definitions.specs.Plan.{Plan, Written, writeRefusal, writeCounts, writeSlice, totalSlice, bytesRefusal, bytesSlice, countsSlice}
 use Rattle.plan.specs.Plan.{plan}
-use Rattle.writer.specs.Walk.{Reply, goesOn, Walk, sentBefore, stopAt, afterCall, walk, replyOf, writerReply, Roomy}
-use Rattle.writer.specs.Calls.{counts-accepted, slice-accepted}
-use Rattle.writer.specs.Sequence.{call-accepted, moves-within, none-only-at-end, nothing-left, slice-left, PlanRun, walk-accepted, stops-at-end, enough-slices, walk-stops, plan-sent, plan-run}
+use Rattle.walk.specs.Walk.{Reply, goesOn, Walk, sentBefore, stopAt, afterCall, walk, replyOf, writerReply, Roomy}
+use Rattle.orders.specs.Calls.{counts-accepted, slice-accepted}
+use Rattle.walk.specs.Sequence.{call-accepted, moves-within, none-only-at-end, nothing-left, slice-left, PlanRun, walk-accepted, stops-at-end, enough-slices, walk-stops, plan-sent, plan-run}
 use Rattle.host.specs.Calls.{total-passes, bytes-pass, bytes-given}
 use Rattle.host.specs.Numbers.{held, countsHeld, total-read-back, counts-read-back}
 

@@ -14,7 +14,7 @@ use definitions::is_accepted;
 use definitions::number;
 use judging::judge_counts;
 use orders::Plan;
-use writer::write_plan;
+use orders::write_plan;
 
 // How many bytes one number takes, and the writer's three.
 const NUMBER_BYTES: usize = 8;

@@ -9,4 +9,4 @@ pub mod Steps
 pub mod Cells
 pub mod Answer
 pub mod Runs
-pub mod Writes
+pub mod Calls

@@ -12,12 +12,13 @@ use Rattle.plan.specs.Orders.{OrderOn}
 use Rattle.plan.specs.Names.{Name}
 use Rattle.orders.specs.declared.table.Columns.{Columns}
 use Rattle.orders.specs.declared.table.Shape.{Shape}
+use Rattle.orders.specs.declared.walk.Within.{Within}
 use Rattle.definitions.specs.declared.Order.{Order}
 use Rattle.definitions.specs.declared.Order.the-variants.{Constant}
 use Rattle.plan.specs.Plan.{plan, plan-has}
 use Rattle.orders.specs.Walk.{numberedOf}
-use Rattle.plan.specs.Phased.{partAt, partSize, rowSize, partStart, phaseSize, phaseStart, tableSize, phaseIn, rowOf, flat, flat-length, Has, in-row, in-rows, in-table}
-use Rattle.plan.specs.Table.{Phase, table}
+use Rattle.plan.specs.Phased.{partAt, partSize, rowSize, partStart, phaseSize, phaseStart, tableSize, phaseIn, rowOf, allRows, flat, flat-length, Has, in-row, in-rows, in-table}
+use Rattle.plan.specs.Table.{Phase, table, phaseAt, phaseCount, table-length}
 use Rattle.orders.specs.Shaped.{phaseLimit, IsShape, SmallPart, PartIn, part-is, InPhase, orderIn, has-order, positive-right}
 
 -- row i and part q are among those of a phase
@@ -95,6 +96,11 @@ module _ (ps : List Phase) (x : ℕ) where
   unfolding phaseStart sumTo
   phases-none = record { phases = omega arith; left = omega arith }
 
+  -- counted from the start of the first phase
+  pub from-start : phaseStart ps 0 + x ≡ x
+  unfolding phaseStart sumTo
+  from-start = omega arith
+
   -- past the last phase is past the list's end
   pub phases-all : (y k : ℕ) → PhasesPassed ps x y k → length ps ≤ k → length (flat ps) ≤ x
   unfolding tableSize phaseStart
@@ -121,30 +127,43 @@ module _ (ps : List Phase) (x : ℕ) where
           w ∙ ap (λ (z : ℕ). sumTo z (λ v. phaseSize (phaseIn ps v)) + (y - size)) (sym (add-one k)));
     }
 
-    module _ (row : ℕ) (e : row ≡ rowSize (phaseIn ps k)) (a : y < phaseSize (phaseIn ps k)) where
-      pub row-positive : 0 < row
-      row-positive = rw e (positive-right (phaseIn ps k .rows) (rowSize (phaseIn ps k)) y a)
+-- ---- in a phase
 
-      pub row-within : y / row < phaseIn ps k .rows
-      row-within = div-lt-iff-lt-mul row-positive .1 (rw (← e) at a)
+module _ (p : Phase) (y row : ℕ) (e : row ≡ rowSize p) (a : y < phaseSize p) where
+  pub row-positive : 0 < row
+  row-positive = rw e (positive-right (p .rows) (rowSize p) y a)
 
-      pub place-within : y % row < rowSize (phaseIn ps k)
-      place-within = rw (← e) (mod-lt y row-positive)
+  pub row-within : y / row < p .rows
+  row-within = div-lt-iff-lt-mul row-positive .1 (rw (← e) at a)
 
-      row-has : (o : OrderOn Name) → Has (rowOf (phaseIn ps k) (y / row)) (y % row) o → Has (flat ps) x o
-      row-has o r =
-          let has = in-table ps k ((y / row) * rowSize (phaseIn ps k) + y % row) o l (in-rows (phaseIn ps k) (y / row) (y % row) o row-within r) in
-          let w : x ≡ phaseStart ps k + ((y / row) * rowSize (phaseIn ps k) + y % row)
-          = h .left ∙ ap (λ (z : ℕ). phaseStart ps k + z) (sym (div-add-mod' y row) ∙ ap (λ (z : ℕ). (y / row) * z + y % row) e) in
-          rw w has
+  pub place-within : y % row < rowSize p
+  place-within = rw (← e) (mod-lt y row-positive)
 
-      pub row-is-at : (n m : ℕ) (r : Order) → IsAt n m (rowOf (phaseIn ps k) (y / row)) (y % row) r → IsAt n m (flat ps) x r
-      row-is-at n m r q = record { order = q .order; there = row-has (q .order) (q .there); is = q .is }
+  pub row-is-at : (n m : ℕ) (r : Order) → IsAt n m (rowOf p (y / row)) (y % row) r → IsAt n m (allRows p) y r
+  row-is-at n m r q =
+      let has = in-rows p (y / row) (y % row) (q .order) row-within (q .there) in
+      let w : y ≡ (y / row) * rowSize p + y % row = sym (div-add-mod' y row) ∙ ap (λ (z : ℕ). (y / row) * z + y % row) e in
+      record { order = q .order; there = rw w has; is = q .is }
 
--- the plan's order at a position from that of its table
-pub plan-at : (n m at : ℕ) (r : Order) → IsAt n m (flat (table n m)) at r → r ≡ getD (plan n m) at (Constant 0 0)
-unfolding numberedOf
-plan-at n m at r q = q .is ∙ sym (plan-has n m at (q .order) (q .there) .is (Constant 0 0))
+-- ---- a position of the plan
+
+-- the place of a position
+pub record IsWithin (n m at : ℕ) (p : Within) : Type 0 where
+  pub passed : PhasesPassed (table n m) at (p .1) (p .0)
+  pub phase : p .0 < phaseCount
+  pub inside : p .1 < phaseSize (phaseAt n m (p .0))
+
+-- the plan's order there
+pub plan-at : (n m at : ℕ) (p : Within) (r : Order) → IsWithin n m at p → IsAt n m (allRows (phaseAt n m (p .0))) (p .1) r
+    → r ≡ getD (plan n m) at (Constant 0 0)
+unfolding numberedOf phaseAt
+plan-at n m at p r h q =
+    let has = in-table (table n m) (p .0) (p .1) (q .order) (omega (arith, h .phase, table-length n m)) (q .there) in
+    q .is ∙ sym (plan-has n m at (q .order) (rw (h .passed .left) has) .is (Constant 0 0))
+
+-- the position behind it
+pub next-passed : (n m at : ℕ) (p : Within) → IsWithin n m at p → PhasesPassed (table n m) (at + 1) (p .1 + 1) (p .0)
+next-passed n m at p h = record { phases = h .passed .phases; left = omega (arith, h .passed .left) }
 
 -- ---- what the code read
 

@@ -4,15 +4,17 @@ ghost use mathlib.Core.Path.{_≡_};
 ghost use lib.ListN.{length};
 ghost use Rattle.definitions.specs.Answers.{refusalOf};
 ghost use Rattle.definitions.specs.Calls.{countsRefusal};
-ghost use Rattle.definitions.specs.Plan.{asked, askRefusal, total};
+ghost use Rattle.definitions.specs.Plan.{asked, askRefusal, total, writeRefusal, writeCounts, writeSlice};
 ghost use Rattle.plan.specs.Plan.{plan};
 ghost use Rattle.orders.specs.Answer.{answerOf, SamePlan};
 ghost use Rattle.orders.specs.Runs.{steppedPlan};
-ghost use Rattle.orders.specs.Writes.{countsWritten, filledCounts, filledSlice};
+ghost use Rattle.orders.specs.Calls.{countsOf};
 use crate::layout::tables_of;
 use crate::run::run_phases;
 use crate::walk::length_of;
 use crate::walk::order_in;
+use crate::write::judge_room;
+use crate::write::none_written;
 use crate::write::write_from;
 use definitions::Order;
 use definitions::Verdict;
@@ -126,25 +128,29 @@ pub fn run_plan(n: usize, m: usize, sheet: &mut [u32]) -> usize
     length_of(n, m, &tables)
 }
 
-// What was written: bytes, orders, and the position after them.
+// What was written: bytes, orders, and the position after them; or why nothing was.
 pub struct Written {
+    pub verdict: Verdict,
     pub bytes: usize,
     pub orders: usize,
     pub next: usize,
 }
 
-// Writes the plan's orders from a position on, as many whole ones as fit, and keeps the bytes after them; nothing for refused counts.
-pub fn write_orders(n: usize, m: usize, at: usize, out: &mut [u8]) -> Written
-    ensures counts { λ r. ⌜ countsWritten r ≡ filledCounts plan n m at (length (now (out .entry))) ⌝ }
-    ensures slice { λ _. ⌜ now (out .exit) ≡ filledSlice plan n m at (now (out .entry)) ⌝ }
+// From a position, fills the slice with as many whole orders as fit and keeps the bytes after them.
+pub fn write_plan(n: usize, m: usize, at: usize, out: &mut [u8]) -> Written
+    ensures verdict { λ r. ⌜ refusalOf (r .verdict) ≡ writeRefusal plan n m at (length (now (out .entry))) ⌝ }
+    ensures counts { λ r. ⌜ countsOf r ≡ writeCounts plan n m at (length (now (out .entry))) ⌝ }
+    ensures slice { λ _. ⌜ now (out .exit) ≡ writeSlice plan n m at (now (out .entry)) ⌝ }
 {
-    if !is_accepted(judge_counts(n, m)) {
-        return Written {
-            bytes: 0,
-            orders: 0,
-            next: 0,
-        };
+    let counts = judge_counts(n, m);
+    if !is_accepted(counts) {
+        return none_written(counts);
     }
     let tables = tables_of(n, m);
-    write_from(n, m, &tables, at, out)
+    let total = length_of(n, m, &tables);
+    let verdict = judge_room(total, at, out.len());
+    if !is_accepted(verdict) {
+        return none_written(verdict);
+    }
+    write_from(n, m, &tables, total, at, out)
 }

@@ -1,15 +1,15 @@
 // The walk through the table of phases: how many orders it has, and the order at a position.
 ghost use mathlib.Core.Path.{_≡_};
-ghost use Prim.Native.Nat.{_*_, _≤_, _<_};
+ghost use Prim.Native.Nat.{_+_, _*_, _≤_, _<_};
 ghost use lib.ListN.{length, getD};
 ghost use Rattle.definitions.specs.Limits.{bidLimit};
 ghost use Rattle.definitions.specs.declared.Order.the-variants.{Constant};
 ghost use Rattle.laws.specs.Sizes.{Counts};
-ghost use Rattle.plan.specs.Phased.{rowOf, rowSize};
-ghost use Rattle.plan.specs.Table.{scratchCount, phaseAt, phaseCount};
+ghost use Rattle.plan.specs.Phased.{rowOf, rowSize, allRows, phaseSize, phaseStart};
+ghost use Rattle.plan.specs.Table.{scratchCount, table, phaseAt, phaseCount};
 ghost use Rattle.plan.specs.Plan.{plan};
 ghost use Rattle.orders.specs.Shaped.{IsShape, SmallPart, SmallShape, rowNumber, stretchLimit, rowLimit, phaseLimit};
-ghost use Rattle.orders.specs.Steps.{IsAt};
+ghost use Rattle.orders.specs.Steps.{IsAt, IsWithin};
 ghost use Rattle.orders.specs.Tables.{IsSize, IsTables};
 use crate::cells::numbered_order;
 use crate::layout::PHASES;
@@ -108,23 +108,47 @@ fn in_row(
     }
 }
 
+// A place in the table: a phase, and a place within it.
+pub struct Within(pub usize, pub usize);
+
+// The place of the order that stands x orders behind the start of phase k, before the plan's end.
+pub fn phase_from(n: usize, m: usize, tables: &[usize; TABLES], k: usize, x: usize) -> Within
+    requires { ⌜ IsTables n m (now tables) ⌝ }
+    requires { ⌜ k ≤ phaseCount ⌝ }
+    requires { ⌜ phaseStart (table n m) k + x < length (plan n m) ⌝ }
+    ensures { λ r. ⌜ IsWithin n m (phaseStart (table n m) k + x) r ⌝ }
+{
+    let mut y = x;
+    let mut l = k;
+    loop {
+        let size = tables[SIZES_OF_PHASES + l];
+        if y < size {
+            return Within(l, y);
+        }
+        y -= size;
+        l += 1;
+    }
+}
+
+// The order at a place.
+pub fn order_within(n: usize, m: usize, tables: &[usize; TABLES], place: Within) -> Order
+    requires { ⌜ IsTables n m (now tables) ⌝ }
+    requires { ⌜ place .0 < phaseCount ⌝ }
+    requires { ⌜ place .1 < phaseSize (phaseAt n m (place .0)) ⌝ }
+    ensures { λ r. ⌜ IsAt n m (allRows (phaseAt n m (place .0))) (place .1) r ⌝ }
+{
+    let k = place.0;
+    let scratch = scratch_count(n, m, tables);
+    let s = shape_of(n, m, scratch, k);
+    let row = row_size(s);
+    in_row(n, m, tables, k, s, place.1 / row, place.1 % row)
+}
+
 // The plan's order at a position before its end.
 pub fn order_in(n: usize, m: usize, tables: &[usize; TABLES], at: usize) -> Order
     requires { ⌜ IsTables n m (now tables) ⌝ }
     requires { ⌜ at < length (plan n m) ⌝ }
     ensures { λ r. ⌜ r ≡ getD (plan n m) at (Constant 0 0) ⌝ }
 {
-    let scratch = scratch_count(n, m, tables);
-    let mut x = at;
-    let mut k = 0;
-    loop {
-        let size = tables[SIZES_OF_PHASES + k];
-        if x < size {
-            let s = shape_of(n, m, scratch, k);
-            let row = row_size(s);
-            return in_row(n, m, tables, k, s, x / row, x % row);
-        }
-        x -= size;
-        k += 1;
-    }
+    order_within(n, m, tables, phase_from(n, m, tables, 0, at))
 }

@@ -8,7 +8,7 @@ use Rattle.definitions.specs.Calls.{countsRefusal, lengthRefusal}
 use Rattle.definitions.specs.Plan.{countsSize, positionRefusal, roomRefusal, askRefusal, writeRefusal, bytesRefusal, countBytes}
 use Rattle.laws.specs.Search.{turned-away, let-through, first-to-refuse}
 use Rattle.plan.specs.Plan.{plan}
-use Rattle.writer.specs.Calls.{counts-accepted, slice-accepted, slice-refused}
+use Rattle.orders.specs.Calls.{counts-accepted, slice-accepted, slice-refused}
 use Rattle.host.specs.Calls.{first-grouped, passed-between, bytes-length, bytes-writing, bytes-given, bytes-kept, counts-given, counts-kept}
 use Rattle.host.proofs.plan_bytes.Statement.{statement}
 use Rattle.host.proofs.plan_bytes.Tie as tie

@@ -8,7 +8,7 @@ use Rattle.definitions.specs.declared.Order.{Order}
 use Rattle.definitions.specs.declared.Order.the-variants.{Constant, Sum}
 use Rattle.definitions.specs.Bytes.{groups, numberBytes, orderBytes, ordersBytes}
 use Rattle.definitions.specs.Plan.{askRefusal, fitting, writeRefusal, ordersWritten, bytesWritten, writtenCounts, writeCounts, writeSlice}
-use Rattle.writer.specs.Walk.{Reply, walk, writerReply}
+use Rattle.walk.specs.Walk.{Reply, walk, writerReply}
 
 -- orders of 8, 4 and 3 bytes
 abbrev pub three : (n m : ℕ) → List Order

@@ -27,8 +27,8 @@ use Rattle.plan.specs.Plan.{plan}
 use Rattle.plan.specs.List.{plan-well-formed, plan-orders}
 use Rattle.plan.specs.Asking.{within-total}
 use Rattle.codec.specs.Fitting.{bytes-of-both, bytes-of-none, bytes-in-parts, bytes-at-most, fits-none, fits-at-most, some-fits}
-use Rattle.writer.specs.Calls.{counts-accepted, slice-accepted}
-use Rattle.writer.specs.Walk.{Reply, goesOn, Walk, sentBefore, stopAt, afterCall, walk, replyOf, writerReply, Roomy}
+use Rattle.orders.specs.Calls.{counts-accepted, slice-accepted}
+use Rattle.walk.specs.Walk.{Reply, goesOn, Walk, sentBefore, stopAt, afterCall, walk, replyOf, writerReply, Roomy}
 
 -- the runner accepts some bytes and runs the plan; what it leaves is a sheet
 pub record PlanRun (n m : ℕ) (sheet bytes : List ℕ) : Type 0 where

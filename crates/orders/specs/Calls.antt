@@ -1,22 +1,34 @@
 -- What is known of a call of the writer that is not refused (`write-within`), and what each call leaves.
 use Prim.Native.Nat.{ℕ, _≤_}
-use mathlib.Core.Path.{_≡_, ap}
-use mathlib.Core.Bool.{false}
+use mathlib.Core.Path.{_≡_, refl, ap}
+use mathlib.Core.Bool.{false, cond, true≢false}
+use lib.Dec.{ltb}
 use mathlib.Core.List.{List}
 use lib.ListN.{length}
 use borrow.Author.Tests.{ltb-false}
-use Rattle.definitions.specs.Answers.{Refusal, none, unless, isNone}
+use Rattle.definitions.specs.Answers.{Refusal, none, refuse, first, unless, isNone}
 use Rattle.definitions.specs.Calls.{countsRefusal}
+use Rattle.definitions.specs.Plan as given
+use Rattle.orders.specs.declared.Written.{Written}
 use Rattle.definitions.specs.Plan.{Plan, positionRefusal, roomRefusal, askRefusal, writeRefusal, over, bytesWritten, nothingWritten, writtenCounts, writeCounts, writeSlice}
 use Rattle.laws.specs.Refusal.{test-failed, first-left, first-right, unless-refused}
 
-pub record Within (P : Plan) (n m at bytes : ℕ) : Type 0 where
+-- "the counts of bytes and orders and the next position"
+abbrev pub countsOf : Written → given.Written
+countsOf w = record { bytes = w .bytes; orders = w .orders; next = w .next }
+
+-- 13 by the total
+abbrev pub pastRefusal : (total at : ℕ) → Refusal
+pastRefusal total at = cond (ltb total at) (refuse 13 0) none
+
+-- what is known of a call that is not refused
+pub record Judged (P : Plan) (n m at bytes : ℕ) : Type 0 where
   pub counts : countsRefusal n m ≡ none
   pub position : at ≤ length (P n m)
   pub room : 8 ≤ bytes
 
 module _ (P : Plan) (n m at room : ℕ) where
-  pub write-within : writeRefusal P n m at room ≡ none → Within P n m at room
+  pub write-within : writeRefusal P n m at room ≡ none → Judged P n m at room
   unfolding writeRefusal askRefusal
   write-within e =
       let asked = first-left (askRefusal P n m at) (roomRefusal room) e in
@@ -25,6 +37,20 @@ module _ (P : Plan) (n m at room : ℕ) where
         position = ltb-false (length (P n m)) at (test-failed _ 13 0 (first-right (countsRefusal n m) (positionRefusal (P n m) at) asked));
         room = ltb-false room 8 (test-failed _ 14 0 (first-right (askRefusal P n m at) (roomRefusal room) e));
       }
+
+  -- the counts passed: the rest of the judging, by the total
+  pub by-room : countsRefusal n m ≡ none → writeRefusal P n m at room ≡ first (pastRefusal (length (P n m)) at) (roomRefusal room)
+  unfolding writeRefusal askRefusal
+  by-room e = ap (λ (r : Refusal). first (first r (positionRefusal (P n m) at)) (roomRefusal room)) e
+
+  -- or they did not
+  pub by-counts : isNone (countsRefusal n m) ≡ false → writeRefusal P n m at room ≡ countsRefusal n m
+  unfolding writeRefusal askRefusal
+  by-counts = go (countsRefusal n m)
+    where
+      go : (r : Refusal) → isNone r ≡ false → first (first r (positionRefusal (P n m) at)) (roomRefusal room) ≡ r
+      go none e = absurd (true≢false e)
+      go (refuse k x) e = refl
 
   pub counts-accepted : writeRefusal P n m at room ≡ none → writeCounts P n m at room ≡ writtenCounts P n m at room
   unfolding writeCounts

@@ -1,0 +1,2 @@
+-- A host's walk by computation.
+pub mod WalkFacts
