@@ -14,22 +14,22 @@ use Rattle.codec.specs.declared.ReadNumber.the-variants as number
 use Rattle.codec.specs.declared.ReadOrder.{ReadOrder}
 use Rattle.codec.specs.declared.ReadOrder.the-variants as order
 
-pub data Answer (A : Type 0) : Type 0 where
-  given : A → (next : ℕ) → Answer A
-  refused : Refusal → Answer A
+pub data ReadResult (A : Type 0) : Type 0 where
+  given : A → (next : ℕ) → ReadResult A
+  refused : Refusal → ReadResult A
 
 -- what reading an order gives, "Place: offset of the order's first byte."
-abbrev pub answerAt : {A : Type 0} → (place : ℕ) → Read A → Answer A
+abbrev pub answerAt : {A : Type 0} → (place : ℕ) → Read A → ReadResult A
 answerAt place (fault k) = refused (refuse k place)
 answerAt place (found a next) = given a next
 
 -- the cases of read_order's answer
-abbrev pub orderAnswer : ReadOrder → Answer Order
+abbrev pub orderAnswer : ReadOrder → ReadResult Order
 orderAnswer (order.Found o next) = given o next
 orderAnswer (order.Refused verdict) = refused (refusalOf verdict)
 
 -- of one number's
-abbrev pub numberAnswer : ReadNumber → Answer ℕ
+abbrev pub numberAnswer : ReadNumber → ReadResult ℕ
 numberAnswer (number.Found v next) = given v next
 numberAnswer (number.Refused verdict) = refused (refusalOf verdict)
 
@@ -40,7 +40,7 @@ groupsAnswer groups.Bad = bad
 groupsAnswer (groups.Number v bytes) = number v bytes
 
 -- a number below a limit, else a refusal
-abbrev pub limitedAnswer : (limit : ℕ) → Refusal → Answer ℕ → Answer ℕ
+abbrev pub limitedAnswer : (limit : ℕ) → Refusal → ReadResult ℕ → ReadResult ℕ
 limitedAnswer limit over (given v next) = cond (ltb v limit) (given v next) (refused over)
 limitedAnswer limit over (refused r) = refused r
 

@@ -96,10 +96,10 @@ unfolding groupsLimit
 later-read-written zero v rest h k = absurd (omega arith)
 later-read-written (suc g) v rest h k = one-group g false v rest (simp (lt-ltb 0 v k)) (λ b. later-read-written g (v / 128) rest (omega arith) (omega arith))
 
-pub read-written : (g v : ℕ) (rest : List ℕ) → 0 < g → v < groupsLimit g → readGroups g true (groups g v ++ rest) ≡ number v (length (groups g v))
+pub groups-read-back : (g v : ℕ) (rest : List ℕ) → 0 < g → v < groupsLimit g → readGroups g true (groups g v ++ rest) ≡ number v (length (groups g v))
 unfolding groupsLimit
-read-written zero v rest k h = absurd (let x : ⊥ = omega arith in x)
-read-written (suc g) v rest k h = one-group g true v rest refl (λ b. later-read-written g (v / 128) rest (omega arith) (omega arith))
+groups-read-back zero v rest k h = absurd (let x : ⊥ = omega arith in x)
+groups-read-back (suc g) v rest k h = one-group g true v rest refl (λ b. later-read-written g (v / 128) rest (omega arith) (omega arith))
 
 -- a number too big for g groups leaves no last group
 pub too-big : (g : ℕ) (first : Bool) (v : ℕ) (rest : List ℕ) → groupsLimit g ≤ v → readGroups g first (groups g v ++ rest) ≡ bad
@@ -113,7 +113,7 @@ too-big (suc g) first v rest h =
 -- ---- only the shortest form is read
 
 -- what is known of a number v that was read in n bytes at the head of xs
-pub record Shortest (g : ℕ) (first : Bool) (xs : List ℕ) (v n : ℕ) : Type 0 where
+pub record ShortestGroups (g : ℕ) (first : Bool) (xs : List ℕ) (v n : ℕ) : Type 0 where
   pub value : v < groupsLimit g
   pub size : n ≤ g
   pub some : 0 < n
@@ -141,7 +141,7 @@ more-form g x w h k p =
     simp q (ap₂ (λ (y : ℕ) (z : ℕ). y ∷ groups g z) a b)
 
 module _ (g : ℕ) (first : Bool) (x : ℕ) (xs : List ℕ) (v n : ℕ) where
-  last-known : x < 128 → (first ≡ false → 0 < x) → number x 1 ≡ number v n → Shortest (suc g) first (x ∷ xs) v n
+  last-known : x < 128 → (first ≡ false → 0 < x) → number x 1 ≡ number v n → ShortestGroups (suc g) first (x ∷ xs) v n
   unfolding groupsLimit
   last-known h k e =
       let p : x ≡ v = cc in
@@ -155,7 +155,7 @@ module _ (g : ℕ) (first : Bool) (x : ℕ) (xs : List ℕ) (v n : ℕ) where
         form = λ b. rw (← p, ← q) (last-form g x xs h);
       }
 
-  more-known : (r : Number) → 128 ≤ x → ((w k : ℕ) → r ≡ number w k → Shortest g false xs w k) → moreGroups x r ≡ number v n → Shortest (suc g) first (x ∷ xs) v n
+  more-known : (r : Number) → 128 ≤ x → ((w k : ℕ) → r ≡ number w k → ShortestGroups g false xs w k) → moreGroups x r ≡ number v n → ShortestGroups (suc g) first (x ∷ xs) v n
   unfolding groupsLimit
   more-known short h known e = short-number e
   more-known bad h known e = bad-number e
@@ -176,20 +176,20 @@ module _ (g : ℕ) (first : Bool) (x : ℕ) (xs : List ℕ) (v n : ℕ) where
         form = λ o. rw (← p, ← q, add-one k, more-form g x w h (o 0) d) (ap (λ (l : List ℕ). x ∷ l) (i .form (λ j. o (suc j))));
       }
 
-last-shortest : (g : ℕ) (first : Bool) (x : ℕ) (xs : List ℕ) (v n : ℕ) → x < 128 → lastGroup first x ≡ number v n → Shortest (suc g) first (x ∷ xs) v n
+last-shortest : (g : ℕ) (first : Bool) (x : ℕ) (xs : List ℕ) (v n : ℕ) → x < 128 → lastGroup first x ≡ number v n → ShortestGroups (suc g) first (x ∷ xs) v n
 last-shortest g true x xs v n h e = last-known g true x xs v n h (λ z. absurd (true≢false z)) e
 last-shortest g false x xs v n h e = go (ltb 0 x) refl e
   where
-    go : (t : Bool) → ltb 0 x ≡ t → cond t (number x 1) bad ≡ number v n → Shortest (suc g) false (x ∷ xs) v n
+    go : (t : Bool) → ltb 0 x ≡ t → cond t (number x 1) bad ≡ number v n → ShortestGroups (suc g) false (x ∷ xs) v n
     go true q e = last-known g false x xs v n h (λ _. ltb-true 0 x q) e
     go false q e = bad-number e
 
-pub only-shortest : (g : ℕ) (first : Bool) (xs : List ℕ) (v n : ℕ) → readGroups g first xs ≡ number v n → Shortest g first xs v n
+pub only-shortest-groups : (g : ℕ) (first : Bool) (xs : List ℕ) (v n : ℕ) → readGroups g first xs ≡ number v n → ShortestGroups g first xs v n
 unfolding readGroups
-only-shortest zero first xs v n e = bad-number e
-only-shortest (suc g) first [] v n e = short-number e
-only-shortest (suc g) first (x ∷ xs) v n e = go (ltb x 128) refl (only-shortest g false xs) e
+only-shortest-groups zero first xs v n e = bad-number e
+only-shortest-groups (suc g) first [] v n e = short-number e
+only-shortest-groups (suc g) first (x ∷ xs) v n e = go (ltb x 128) refl (only-shortest-groups g false xs) e
   where
-    go : (t : Bool) → ltb x 128 ≡ t → ((w k : ℕ) → readGroups g false xs ≡ number w k → Shortest g false xs w k) → cond t (lastGroup first x) (moreGroups x (readGroups g false xs)) ≡ number v n → Shortest (suc g) first (x ∷ xs) v n
+    go : (t : Bool) → ltb x 128 ≡ t → ((w k : ℕ) → readGroups g false xs ≡ number w k → ShortestGroups g false xs w k) → cond t (lastGroup first x) (moreGroups x (readGroups g false xs)) ≡ number v n → ShortestGroups (suc g) first (x ∷ xs) v n
     go true q later e = last-shortest g first x xs v n (ltb-true _ _ q) e
     go false q later e = more-known g first x xs v n (readGroups g false xs) (ltb-false _ _ q) later e

@@ -114,7 +114,7 @@ module _ (s : List ℕ) where
   unfolding numberAt numberBytes groupsLimit
   number-there at v rest h e =
       record {
-        read = ap (λ (l : List ℕ). placed at (readGroups mostGroups true l)) e ∙ ap (placed at) (groups.read-written mostGroups v rest (omega arith) (omega arith)) ∙ simp (lt-ltb v numberLimit h);
+        read = ap (λ (l : List ℕ). placed at (readGroups mostGroups true l)) e ∙ ap (placed at) (groups.groups-read-back mostGroups v rest (omega arith) (omega arith)) ∙ simp (lt-ltb v numberLimit h);
         then = sym (drop-drop (length (numberBytes v)) at s) ∙ ap (drop (length (numberBytes v))) e ∙ drop-append-seam (numberBytes v) rest;
       }
 
@@ -129,7 +129,7 @@ module _ (s : List ℕ) where
   number-too-big at v rest h e = ap (λ (l : List ℕ). placed at (readGroups mostGroups true l)) e ∙ go (lt? v (groupsLimit mostGroups))
     where
       go : {t : Bool} → Lt? v (groupsLimit mostGroups) t → placed at (readGroups mostGroups true (numberBytes v ++ rest)) ≡ fault 11
-      go (less l) = ap (placed at) (groups.read-written mostGroups v rest (omega arith) l) ∙ simp (le-ltb v numberLimit h)
+      go (less l) = ap (placed at) (groups.groups-read-back mostGroups v rest (omega arith) l) ∙ simp (le-ltb v numberLimit h)
       go (more l) = ap (placed at) (groups.too-big mostGroups true v rest l)
 
   kind-there : (at v : ℕ) (rest : List ℕ) → v < 6 → drop at s ≡ numberBytes v ++ rest → There (kindAt s at) at v rest
@@ -271,7 +271,7 @@ module _ (s : List ℕ) where
           in-limit true e =
               let a : w ≡ v = cc in
               let b : at + n ≡ next = cc in
-              let r = groups.only-shortest mostGroups true (drop at s) w n q in
+              let r = groups.only-shortest-groups mostGroups true (drop at s) w n q in
               record {
                 onward = omega (arith, r .some);
                 within = omega (arith, r .some, r .inside, length-drop at s);

@@ -17,7 +17,7 @@ use Rattle.definitions.specs.Calls.{AcceptedBook, bidRefusal, sealRefusal, bids
 use Rattle.laws.specs.Extremes.{minTo}
 use Rattle.laws.specs.AcceptedBook.{bidsOf, bookOf}
 use Rattle.theory.specs.Subsets.{member}
-use Rattle.theory.specs.ClosedForms.{subsetSum, demand, cut, ahead, reach, rank, usedAmount, acceptedAmount}
+use Rattle.theory.specs.ClosedForms.{subsetSum, demand, cut, sizeBefore, sizeWith, rank, usedAmount, acceptedAmount}
 use Rattle.theory.specs.SameClearing.{welfare-same}
 use Rattle.theory.specs.PoolPrice.{pool-price-same}
 use Rattle.theory.specs.ClosedBest.{closed-accepted}
@@ -148,7 +148,7 @@ edges-hold = record {
 }
 
 pub proved-examples : ProvedExamples
-unfolding bookOne bookTwo bookThree bookFour bookFive bookSix bookSeven listed sealRefusal bidsRefusal capacitiesRefusal rowRefusal firstFrom member subsetSum demand cut ahead reach rank usedAmount acceptedAmount before sumTo minTo poolPrice highest welfare sumZ orderBytes numberBytes groups
+unfolding bookOne bookTwo bookThree bookFour bookFive bookSix bookSeven listed sealRefusal bidsRefusal capacitiesRefusal rowRefusal firstFrom member subsetSum demand cut sizeBefore sizeWith rank usedAmount acceptedAmount before sumTo minTo poolPrice highest welfare sumZ orderBytes numberBytes groups
 proved-examples = record {
   one = cleared bookOne _ _ _ _ refl refl (λ c q e. no-line c (q .feasible .flows 0 0 (omega arith) (omega arith))) refl refl;
   two = cleared bookTwo _ _ _ _ refl refl (λ c q e. two-flows c q (e 0 (omega arith))) refl refl;

@@ -11,7 +11,7 @@ use lib.IntN.{ℤ}
 use Rattle.definitions.specs.Limits.{poolResults}
 use Rattle.definitions.specs.Arithmetic.{joinTo}
 use Rattle.definitions.specs.Settle.{decimalZ, space, newline, bidLine, flowLine, priceLine, resultAt}
-use Rattle.listing.specs.Put.{Put, nothing, then, same-bytes, room-second}
+use Rattle.listing.specs.Put.{Put, nothing, then-put, same-bytes, room-second}
 
 -- the last field of a line
 abbrev pub lastField : ℤ → List ℕ
@@ -56,7 +56,7 @@ line-room i k line h a l = room-second (line i) a (omega (arith, lines-part i k 
 
 -- one more turn
 pub line-put : {d e f : List ℕ} {at p q : ℕ} (i : ℕ) (line : ℕ → List ℕ) → Put d at (joinTo i line) e p → Put e p (line i) f q → Put d at (joinTo (i + 1) line) f q
-line-put i line a b = rw (lines-next i line) (then a b)
+line-put i line a b = rw (lines-next i line) (then-put a b)
 
 -- the last turn's end
 pub all-lines : {d e : List ℕ} {at p : ℕ} (i k : ℕ) (line : ℕ → List ℕ) → i ≤ k → k ≤ i → Put d at (joinTo i line) e p → Put d at (joinTo k line) e p

@@ -1,4 +1,4 @@
--- A piece of text stored in a slice from a position on, and that two pieces stored one behind the other are one (`then`).
+-- A piece of text stored in a slice from a position on, and that two pieces stored one behind the other are one (`then-put`).
 use Prim.Native.Nat.{ℕ, _+_, _≤_}
 use mathlib.Core.Path.{_≡_, refl, sym, ap, _∙_, subst}
 use mathlib.Core.List.{List, [], _∷_, _++_}
@@ -30,8 +30,8 @@ pub same-room : (at n : ℕ) {xs ys : List ℕ} → xs ≡ ys → at + length xs
 same-room at n q h = subst (λ (l : List ℕ). at + length l ≤ n) q h
 
 -- a piece behind another
-pub then : {d e f : List ℕ} {at p q : ℕ} {xs ys : List ℕ} → Put d at xs e p → Put e p ys f q → Put d at (xs ++ ys) f q
-then {d} {e} {f} {at} {p} {q} {xs} {ys} a b = record {
+pub then-put : {d e f : List ℕ} {at p q : ℕ} {xs ys : List ℕ} → Put d at xs e p → Put e p ys f q → Put d at (xs ++ ys) f q
+then-put {d} {e} {f} {at} {p} {q} {xs} {ys} a b = record {
   behind = omega (arith, length-append xs ys, a .behind, b .behind);
   stored =
       b .stored

@@ -19,19 +19,19 @@ use Rattle.definitions.specs.Machine.{cell, runOf}
 use Rattle.laws.specs.Tests.{Lt?, less, more, lt?}
 use Rattle.laws.specs.AcceptedBook.{Sound}
 use Rattle.plan.specs.Orders.{OrderOn, constant, operate, target, orderOf, renamed, run}
-use Rattle.plan.specs.Loops.{loop, listed}
+use Rattle.plan.specs.Loops.{loop, oneOf}
 use Rattle.plan.specs.Names.{Family, number, Name, at, Amounts, Flows, Prices, Temporaries, familyCount, rowsOf, columnsOf}
 use Rattle.plan.specs.Layout.{address-below, address-apart}
 use Rattle.laws.specs.Run.{run-append}
 use Rattle.plan.specs.Simulation.{run-length, run-other, AllNamed, run-agrees}
 use Rattle.plan.specs.Entries.{all-imply}
 use Rattle.plan.specs.Phased.{flat, flat-last, each-flat}
-use Rattle.plan.specs.Values.{tables, acceptedAmount, lineFlow, closedPrice, closedPresence}
+use Rattle.plan.specs.Values.{cellTables, acceptedAmount, lineFlow, closedPrice, closedPresence}
 use Rattle.plan.specs.Blocks.{zeroBlock}
 use Rattle.plan.specs.Table.{scratchCount, zeroPhase, work, table}
 use Rattle.plan.specs.Whole.{outputs, work-done}
 use Rattle.plan.specs.Proper.{Valid, Proper, work-each}
-use Rattle.plan.specs.Plan.{from, from-scratch, from-end, zero-cell, cellOf, numbered, plan, Writable, WritesWell, numbered-writes, names-fit}
+use Rattle.plan.specs.Plan.{from, from-scratch, from-end, zero-cell, cellOf, cellOrders, plan, Writable, WritesWell, numbered-writes, names-fit}
 use Rattle.plan.specs.Sealed.{sealedState, sealed-length, sealed-zero, sealed-inputs}
 
 -- what the sheet r holds when book B is cleared, by document 01's cells
@@ -129,13 +129,13 @@ module _ (B : Book) (sound : Sound B) where
   untouched : (c : ℕ) → (Writable (B .n) (B .m) c → ⊥) → cell clearedSheet c ≡ cell sealed c
   unfolding plan
   untouched c h =
-      run-other c (numbered (B .n) (B .m))
-      (all-imply (WritesWell (B .n) (B .m)) (λ o. target o ≢ c) (λ o w e. h (subst (Writable (B .n) (B .m)) e (w .0))) (numbered (B .n) (B .m)) (numbered-writes (B .n) (B .m) (sound .bids) (sound .pools)))
+      run-other c (cellOrders (B .n) (B .m))
+      (all-imply (WritesWell (B .n) (B .m)) (λ o. target o ≢ c) (λ o w e. h (subst (Writable (B .n) (B .m)) e (w .0))) (cellOrders (B .n) (B .m)) (numbered-writes (B .n) (B .m) (sound .bids) (sound .pools)))
       sealed
 
   -- the results, by their names
-  result-cell : (t : Family) → listed outputs t ≡ true → number t < number Temporaries → (i j : ℕ) → i < rowsOf (B .n) (B .m) t → j < columnsOf (B .n) (B .m) t
-      → cell clearedSheet (cellOf (B .n) (B .m) (at t i j)) ≡ tables B .value t i j
+  result-cell : (t : Family) → oneOf outputs t ≡ true → number t < number Temporaries → (i j : ℕ) → i < rowsOf (B .n) (B .m) t → j < columnsOf (B .n) (B .m) t
+      → cell clearedSheet (cellOf (B .n) (B .m) (at t i j)) ≡ cellTables B .value t i j
   unfolding from
   result-cell t e l i j a b =
       let c : ℕ = cellOf (B .n) (B .m) (at t i j) in
@@ -159,7 +159,7 @@ module _ (B : Book) (sound : Sound B) where
 
   cleared-length : length clearedSheet ≡ cellCount
   unfolding plan
-  cleared-length = run-length (numbered (B .n) (B .m)) sealed ∙ sealed-length B sound
+  cleared-length = run-length (cellOrders (B .n) (B .m)) sealed ∙ sealed-length B sound
 
   pub plan-clears : HoldsClearing B (runOf (plan (B .n) (B .m)) (sealedSheet B))
   unfolding sumTo

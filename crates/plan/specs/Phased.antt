@@ -57,10 +57,10 @@ module _ {A : Type 0} where
   -- ---- the list
 
   -- lists one after another, nested to the right, with no empty list at the end
-  abbrev pub joined : List (List A) → List A
-  joined [] = []
-  joined (x ∷ []) = x
-  joined (x ∷ (y ∷ l)) = x ++ joined (y ∷ l)
+  abbrev pub chained : List (List A) → List A
+  chained [] = []
+  chained (x ∷ []) = x
+  chained (x ∷ (y ∷ l)) = x ++ chained (y ∷ l)
 
   -- a part in row i
   abbrev pub stretch : ℕ → PartOf A → List A
@@ -68,7 +68,7 @@ module _ {A : Type 0} where
 
   -- row i of a phase
   abbrev pub rowOf : PhaseOf A → ℕ → List A
-  rowOf p i = joined (map (stretch i) (p .parts))
+  rowOf p i = chained (map (stretch i) (p .parts))
 
   -- all rows of a phase
   abbrev pub allRows : PhaseOf A → List A
@@ -76,7 +76,7 @@ module _ {A : Type 0} where
 
   -- the whole list: all phases
   abbrev pub flat : List (PhaseOf A) → List A
-  flat ps = joined (map allRows ps)
+  flat ps = chained (map allRows ps)
 
   -- ---- sizes
 
@@ -114,7 +114,7 @@ module _ {A : Type 0} where
       append-nil (a ∷ l) = ap (λ (t : List A). a ∷ t) (append-nil l)
   loop-shift (suc k) f = ap (λ (l : List A). l ++ f (suc k)) (loop-shift k f) ∙ append-assoc (f 0) (loop k (λ i. f (suc i))) (f (suc k))
 
-  joined-loop : {B : Type 0} (g : B → List A) (d : B) (l : List B) → joined (map g l) ≡ loop (length l) (λ q. g (getD l q d))
+  joined-loop : {B : Type 0} (g : B → List A) (d : B) (l : List B) → chained (map g l) ≡ loop (length l) (λ q. g (getD l q d))
   joined-loop g d [] = refl
   joined-loop g d (x ∷ []) = refl
   joined-loop g d (x ∷ (y ∷ l)) =

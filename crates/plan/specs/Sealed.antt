@@ -19,7 +19,7 @@ use Rattle.laws.specs.AcceptedBook.{Sound}
 use Rattle.plan.specs.Orders.{State}
 use Rattle.plan.specs.Holds.{Holds, holds-add}
 use Rattle.plan.specs.Names.{at, Bids, Capacities, ZeroCells}
-use Rattle.plan.specs.Values.{tables, bidCell}
+use Rattle.plan.specs.Values.{cellTables, bidCell}
 use Rattle.plan.specs.Plan.{cellOf}
 use Rattle.plan.specs.Whole.{inputs}
 
@@ -113,9 +113,9 @@ module _ (B : Book) where
         ∙ sealed-capacity (a * B .m + b) (omega (arith, sound .capacity-table, digits-lt x y))
         ∙ ap residue (sound .capacity-is a b x y)
 
-    pub sealed-inputs : Holds (tables B) inputs sealedState
+    pub sealed-inputs : Holds (cellTables B) inputs sealedState
     unfolding sumTo
     sealed-inputs =
-        holds-add (tables B) Bids (Capacities ∷ ZeroCells ∷ []) sealedState bid-cells
-        (holds-add (tables B) Capacities (ZeroCells ∷ []) sealedState capacity-cells
-        (holds-add (tables B) ZeroCells [] sealedState (λ i j a b. sealed-zero (cellOf (B .n) (B .m) (at ZeroCells i j)) (omega arith)) (λ t e. absurd {0} (false≢true e))))
+        holds-add (cellTables B) Bids (Capacities ∷ ZeroCells ∷ []) sealedState bid-cells
+        (holds-add (cellTables B) Capacities (ZeroCells ∷ []) sealedState capacity-cells
+        (holds-add (cellTables B) ZeroCells [] sealedState (λ i j a b. sealed-zero (cellOf (B .n) (B .m) (at ZeroCells i j)) (omega arith)) (λ t e. absurd {0} (false≢true e))))

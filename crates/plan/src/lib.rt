@@ -1,6 +1,6 @@
 // The plan: the list of orders that clears every book of given counts; the list and what its run leaves stand in specs/.
 ghost use mathlib.Core.Path.{_≡_};
-ghost use Rattle.plan.specs.Names.{placeOf, number};
+ghost use Rattle.plan.specs.Names.{familyPlace, number};
 use definitions::Limits;
 
 // The families of cells, in their order on the sheet: inputs, results, then scratch.
@@ -77,7 +77,7 @@ pub struct Place(pub usize, pub usize, pub usize);
 
 // The place of a family on the sheet, for so many lines and sets of pools.
 pub fn place_of(n: usize, m: usize, lines: usize, sets: usize, f: Family) -> Place
-    ensures { λ r. ⌜ r ≡ placeOf n m lines sets f ⌝ }
+    ensures { λ r. ⌜ r ≡ familyPlace n m lines sets f ⌝ }
 {
     match f {
         Family::Bids => Place(0, n, Limits::BID_NUMBERS),

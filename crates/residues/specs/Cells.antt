@@ -13,7 +13,7 @@ use Rattle.definitions.specs.Limits.{cellCount, modulus}
 use Rattle.definitions.specs.Answers.{Refusal, none, refuse}
 use Rattle.definitions.specs.Machine.{cell, IsSheet}
 use Rattle.definitions.specs.Calls.{cellsRefusal}
-use Rattle.laws.specs.Refusal.{test-passed, from-each, each-from}
+use Rattle.laws.specs.Refusal.{test-passed, first-from-each, each-from}
 
 -- what is said of cell c, which holds x
 abbrev cellRefusal : (x c : ℕ) → Refusal
@@ -23,7 +23,7 @@ cellRefusal x c = cond (ltb x modulus) none (refuse 15 c)
 pub cells-below : (s : List ℕ) → cellsRefusal s ≡ none → (c : ℕ) → cell s c < modulus
 unfolding cellsRefusal
 cells-below s e c = elim (decLt c (length s)) [
-  | yes l ↦ ltb-true (cell s c) modulus (test-passed _ 15 c (rw (zero-add c) at (from-each 0 (length s) (λ i. cellRefusal (cell s i) i) e c l)))
+  | yes l ↦ ltb-true (cell s c) modulus (test-passed _ 15 c (rw (zero-add c) at (first-from-each 0 (length s) (λ i. cellRefusal (cell s i) i) e c l)))
   | no l ↦ rw (List·getD-eq-default s 0 {n = c} (omega arith)) (omega arith)
 ]
 

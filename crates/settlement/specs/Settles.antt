@@ -17,7 +17,7 @@ use Rattle.definitions.specs.Calls.{sealRefusal}
 use Rattle.definitions.specs.Settle.{Input, unreadable, refused, readable, inputText, bookText, unreadableText, settleText}
 use Rattle.definitions.specs.Plan.{Plan, over}
 use Rattle.laws.specs.Sizes.{accepted-sizes}
-use Rattle.text.specs.Reading.{numberLimit}
+use Rattle.text.specs.Reading.{tableNumbers}
 use Rattle.text.specs.Pieces.{joined, piecesRead, reads-pieces}
 use Rattle.listing.specs.Room.{listing-fits, refused-fits}
 use Rattle.listing.specs.Text.{textRoom, textSize, textSlice}
@@ -92,7 +92,7 @@ settled-first plan input cells r out after size bytes e h =
 
 -- the same of a text that was read in pieces, however it is cut
 pub settles : (plan : Plan) (stored : List ℤ) (pieces : List (List ℕ)) (cells : ℕ) (out : List ℕ)
-    → length stored ≡ numberLimit → cells ≡ cellCount → textRoom ≤ length out
+    → length stored ≡ tableNumbers → cells ≡ cellCount → textRoom ≤ length out
     → let input = piecesRead stored pieces in
     take (settledSize plan input cells (length out)) (settledSlice plan input cells out) ≡ settleText plan (joined pieces)
 unfolding settleText

@@ -12,7 +12,7 @@ use Rattle.text.specs.declared.Word.{Word}
 use Rattle.text.specs.declared.Word.the-variants.{Empty, Minus, Digits, NoNumber}
 use Rattle.text.specs.declared.Ended.{Ended}
 use Rattle.text.specs.declared.Ended.the-variants.{Fault, Number}
-use Rattle.text.specs.Words.{greatest, least, beyond, capped, grownBy, signedOf, endedOf}
+use Rattle.text.specs.Words.{greatestSize, leastSize, beyond, capped, grownBy, signedOf, endedOf}
 
 -- ---- A saturated value stays out of range, and any other is exact
 
@@ -50,19 +50,19 @@ negative-capped (suc u) = go (ltb (suc u) beyond) refl
     go : (t : Bool) → ltb (suc u) beyond ≡ t → signedOf true (capped (suc u)) ≡ endedFor (fitting32 (whole (negsuc u)))
     go true e =
         let h = ltb-true (suc u) beyond e in
-        rw (capped-exact (suc u) h, le-leb (suc u) least (omega arith), le-leb u (least - 1) (omega arith)) refl
+        rw (capped-exact (suc u) h, le-leb (suc u) leastSize (omega arith), le-leb u (leastSize - 1) (omega arith)) refl
     go false e =
         let h = ltb-false (suc u) beyond e in
-        rw (capped-beyond (suc u) h, lt-leb u (least - 1) (omega arith)) refl
+        rw (capped-beyond (suc u) h, lt-leb u (leastSize - 1) (omega arith)) refl
 
 positive-capped : (v : ℕ) → signedOf false (capped v) ≡ endedFor (fitting32 (whole (pos v)))
 positive-capped v = go (ltb v beyond) refl
   where
     go : (t : Bool) → ltb v beyond ≡ t → signedOf false (capped v) ≡ endedFor (fitting32 (whole (pos v)))
-    go true e = rw (capped-exact v (ltb-true v beyond e)) (sym (ended-cond (leb v greatest) (pos v)))
+    go true e = rw (capped-exact v (ltb-true v beyond e)) (sym (ended-cond (leb v greatestSize) (pos v)))
     go false e =
         let h = ltb-false v beyond e in
-        rw (capped-beyond v h, lt-leb v greatest (omega arith)) refl
+        rw (capped-beyond v h, lt-leb v greatestSize (omega arith)) refl
 
 pub signed-capped : (negative : Bool) (v : ℕ) → signedOf negative (capped v) ≡ endedFor (fitting32 (whole (cond negative (negℤ (pos v)) (pos v))))
 signed-capped true v = negative-capped v

@@ -9,11 +9,11 @@ use Rattle.text.specs.declared.Ended.{Ended}
 use Rattle.text.specs.declared.Ended.the-variants.{Nothing, Fault, Number}
 
 -- sizes of the greatest and of the least number of signed 32 bits, and the value that stands for every size beyond both
-abbrev pub greatest : ℕ
-greatest = 2147483647
+abbrev pub greatestSize : ℕ
+greatestSize = 2147483647
 
-abbrev pub least : ℕ
-least = 2147483648
+abbrev pub leastSize : ℕ
+leastSize = 2147483648
 
 abbrev pub beyond : ℕ
 beyond = 2147483649
@@ -35,8 +35,8 @@ grownBy NoNumber byte = NoNumber
 
 -- a number by its sign and size, if it is within signed 32 bits
 abbrev pub signedOf : (negative : Bool) (value : ℕ) → Ended
-signedOf true value = cond (leb value least) (Number (negℤ (pos value))) Fault
-signedOf false value = cond (leb value greatest) (Number (pos value)) Fault
+signedOf true value = cond (leb value leastSize) (Number (negℤ (pos value))) Fault
+signedOf false value = cond (leb value greatestSize) (Number (pos value)) Fault
 
 abbrev pub endedOf : Word → Ended
 endedOf Empty = Nothing

@@ -2,7 +2,7 @@
 // specs/ say what each step gives, and that a whole text gives what document 01 says, however it is cut.
 ghost use mathlib.Core.Path.{_≡_};
 ghost use Rattle.definitions.specs.Settle.{blank, settleInput};
-ghost use Rattle.text.specs.Reading.{reading, startReader, fed, failedRead, stepped, wordEnded, over, takenBy, countedBy, faulted, oneMore, begun, countsOf, placeFor, placeWithin, storedAt, answerOf, completed, inputFor};
+ghost use Rattle.text.specs.Reading.{readSoFar, startReader, fed, failedRead, afterByte, wordEnded, decided, takenBy, countedBy, faulted, oneNumberMore, begun, calledFor, placeFor, placeWithin, storedAt, stageInput, completed, inputFor};
 ghost use Rattle.text.specs.Texts.{noneStored, wholeRead};
 ghost use Rattle.text.specs.Words.{grownBy, digitAfter, capped, endedOf, signedOf};
 use definitions::Limits;
@@ -141,7 +141,7 @@ fn end(word: Word) -> Ended
 
 // 1 and 2, or how many numbers n bids and m rows of m capacities have.
 fn call_for(n: usize, m: usize) -> Counts
-    ensures { λ r. ⌜ r ≡ countsOf n m ⌝ }
+    ensures { λ r. ⌜ r ≡ calledFor n m ⌝ }
 {
     let verdict = judge_counts(n, m);
     if !is_accepted(verdict) {
@@ -152,7 +152,7 @@ fn call_for(n: usize, m: usize) -> Counts
 
 // Both counts are read: 1 and 2 are answered before the rest is looked at.
 fn begin(n: usize, m: usize) -> Stage
-    ensures { λ r. ⌜ r ≡ begun n m (countsOf n m) ⌝ }
+    ensures { λ r. ⌜ r ≡ begun n m (calledFor n m) ⌝ }
 {
     match call_for(n, m) {
         Counts::Numbers(_) => Stage::Tables { n, m, read: 0 },
@@ -162,7 +162,7 @@ fn begin(n: usize, m: usize) -> Stage
 
 // One number more of the tables is read.
 fn one_more(n: usize, m: usize, read: usize) -> Stage
-    ensures { λ r. ⌜ r ≡ oneMore n m read (countsOf n m) ⌝ }
+    ensures { λ r. ⌜ r ≡ oneNumberMore n m read (calledFor n m) ⌝ }
 {
     match call_for(n, m) {
         Counts::Numbers(called) => {
@@ -232,7 +232,7 @@ fn take_word(stage: Stage, ended: Ended) -> Stage
 
 // Where the next number of the tables is stored: no place if they have no more.
 fn place_within(n: usize, m: usize, read: usize) -> usize
-    ensures { λ r. ⌜ r ≡ placeWithin read (countsOf n m) ⌝ }
+    ensures { λ r. ⌜ r ≡ placeWithin read (calledFor n m) ⌝ }
 {
     match call_for(n, m) {
         Counts::Numbers(called) => {
@@ -275,7 +275,7 @@ fn store(ended: Ended, at: usize, numbers: &mut [i32; Reader::NUMBERS])
 
 // The answer is known, whatever follows.
 fn is_over(stage: Stage) -> bool
-    ensures { λ r. ⌜ r ≡ over stage ⌝ }
+    ensures { λ r. ⌜ r ≡ decided stage ⌝ }
 {
     match stage {
         Stage::First => false,
@@ -292,7 +292,7 @@ fn is_over(stage: Stage) -> bool
 
 // All numbers called for are read, or not.
 fn complete(n: usize, m: usize, read: usize) -> Input
-    ensures { λ r. ⌜ r ≡ completed n m read (countsOf n m) ⌝ }
+    ensures { λ r. ⌜ r ≡ completed n m read (calledFor n m) ⌝ }
 {
     match call_for(n, m) {
         Counts::Numbers(called) => {
@@ -307,7 +307,7 @@ fn complete(n: usize, m: usize, read: usize) -> Input
 
 // What the text is if it ends in this stage.
 fn answer(stage: Stage) -> Input
-    ensures { λ r. ⌜ r ≡ answerOf stage ⌝ }
+    ensures { λ r. ⌜ r ≡ stageInput stage ⌝ }
 {
     match stage {
         Stage::First => Input::Unreadable,
@@ -341,8 +341,8 @@ impl Reader {
 
     // The word has ended: its number is counted and stored.
     fn end_word(self, numbers: &mut [i32; Reader::NUMBERS]) -> Reader
-        ensures { λ r. ⌜ r ≡ wordEnded (reading self (now (numbers .entry))) .reader ⌝ }
-        ensures { λ _. ⌜ now (numbers .exit) ≡ wordEnded (reading self (now (numbers .entry))) .numbers ⌝ }
+        ensures { λ r. ⌜ r ≡ wordEnded (readSoFar self (now (numbers .entry))) .reader ⌝ }
+        ensures { λ _. ⌜ now (numbers .exit) ≡ wordEnded (readSoFar self (now (numbers .entry))) .numbers ⌝ }
     {
         let word = self.word;
         let stage = self.stage;
@@ -356,8 +356,8 @@ impl Reader {
 
     // One byte is read. Once the answer is known it changes nothing.
     fn step(self, byte: u8, numbers: &mut [i32; Reader::NUMBERS]) -> Reader
-        ensures { λ r. ⌜ r ≡ stepped (reading self (now (numbers .entry))) byte .reader ⌝ }
-        ensures { λ _. ⌜ now (numbers .exit) ≡ stepped (reading self (now (numbers .entry))) byte .numbers ⌝ }
+        ensures { λ r. ⌜ r ≡ afterByte (readSoFar self (now (numbers .entry))) byte .reader ⌝ }
+        ensures { λ _. ⌜ now (numbers .exit) ≡ afterByte (readSoFar self (now (numbers .entry))) byte .numbers ⌝ }
     {
         let word = self.word;
         let stage = self.stage;
@@ -375,8 +375,8 @@ impl Reader {
 
     // The next piece of the text. `numbers` gets the tables' numbers in order.
     pub fn feed(self, bytes: &[u8], numbers: &mut [i32; Reader::NUMBERS]) -> Reader
-        ensures { λ r. ⌜ r ≡ fed (reading self (now (numbers .entry))) (now (bytes .entry)) .reader ⌝ }
-        ensures { λ _. ⌜ now (numbers .exit) ≡ fed (reading self (now (numbers .entry))) (now (bytes .entry)) .numbers ⌝ }
+        ensures { λ r. ⌜ r ≡ fed (readSoFar self (now (numbers .entry))) (now (bytes .entry)) .reader ⌝ }
+        ensures { λ _. ⌜ now (numbers .exit) ≡ fed (readSoFar self (now (numbers .entry))) (now (bytes .entry)) .numbers ⌝ }
     {
         let mut reader = self;
         let mut i = 0;
@@ -389,8 +389,8 @@ impl Reader {
 
     // The text has ended, and with it its last word.
     pub fn finish(self, numbers: &mut [i32; Reader::NUMBERS]) -> Input
-        ensures { λ r. ⌜ r ≡ answerOf (wordEnded (reading self (now (numbers .entry))) .reader .stage) ⌝ }
-        ensures { λ _. ⌜ now (numbers .exit) ≡ wordEnded (reading self (now (numbers .entry))) .numbers ⌝ }
+        ensures { λ r. ⌜ r ≡ stageInput (wordEnded (readSoFar self (now (numbers .entry))) .reader .stage) ⌝ }
+        ensures { λ _. ⌜ now (numbers .exit) ≡ wordEnded (readSoFar self (now (numbers .entry))) .numbers ⌝ }
     {
         let reader = self.end_word(numbers);
         let stage = reader.stage;
@@ -400,8 +400,8 @@ impl Reader {
     // The text breaks off: its rest is not known, and the part that is may be a whole book. So a byte that no text may have is fed: the text is
     // then unreadable, unless its counts were refused before.
     pub fn break_off(self, numbers: &mut [i32; Reader::NUMBERS]) -> Input
-        ensures { λ r. ⌜ r ≡ answerOf (wordEnded (fed (reading self (now (numbers .entry))) failedRead) .reader .stage) ⌝ }
-        ensures { λ _. ⌜ now (numbers .exit) ≡ wordEnded (fed (reading self (now (numbers .entry))) failedRead) .numbers ⌝ }
+        ensures { λ r. ⌜ r ≡ stageInput (wordEnded (fed (readSoFar self (now (numbers .entry))) failedRead) .reader .stage) ⌝ }
+        ensures { λ _. ⌜ now (numbers .exit) ≡ wordEnded (fed (readSoFar self (now (numbers .entry))) failedRead) .numbers ⌝ }
     {
         let last = self.feed(b"?", numbers);
         last.finish(numbers)

@@ -14,8 +14,8 @@ use Rattle.theory.specs.Choices.{on-monotone, on-not, on-add, on-on, on-
 abbrev pub only : ℕ → ℕ → Bool
 only p = λ q. eqb q p
 
-abbrev pub others : (ℕ → Bool) → ℕ → Bool
-others S = λ q. not (S q)
+abbrev pub complement : (ℕ → Bool) → ℕ → Bool
+complement S = λ q. not (S q)
 
 abbrev pub all : ℕ → Bool
 all = λ q. true

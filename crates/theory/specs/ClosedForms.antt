@@ -21,34 +21,34 @@ subsetSum m x S = sumTo m (λ p. on (member S p) (x p))
 
 module _ (B : Book) where
   -- a price made positive, so that 0 can stand for none
-  abbrev pub rate : ℕ → ℕ
-  rate i = suc (raisedPrice B i)
+  abbrev pub positivePrice : ℕ → ℕ
+  positivePrice i = suc (raisedPrice B i)
 
   abbrev pub side : ℕ → ℕ
   side i = on (purchase B i) 1
 
   -- two keys compare merit: at equal price a sale is before a purchase
   abbrev pub key : ℕ → ℕ
-  key i = 2 * rate i + side i
+  key i = 2 * positivePrice i + side i
 
   -- the size of bid i if it is in pool p
-  abbrev pub weight : (i p : ℕ) → ℕ
-  weight i p = on (eqb (poolIndex B i) p) (size B i)
+  abbrev pub poolSize : (i p : ℕ) → ℕ
+  poolSize i p = on (eqb (poolIndex B i) p) (size B i)
 
   -- the sizes of the purchases in pool p
   unfoldable pub demand : ℕ → ℕ
-  demand p = sumTo (B .n) (λ i. on (purchase B i) (weight i p))
+  demand p = sumTo (B .n) (λ i. on (purchase B i) (poolSize i p))
 
   -- the most that can be used in the pools of S: their demand, and the capacities of the lines that leave S
   unfoldable pub cut : ℕ → ℕ
   cut S = subsetSum (B .m) demand S + sumTo (B .m) (λ a. sumTo (B .m) (λ b. on (leaves S a b) (capacity B a b)))
 
   -- the sizes in pool p of the bids before bid i, and of these and bid i
-  unfoldable pub ahead : (i p : ℕ) → ℕ
-  ahead i p = sumTo (B .n) (λ j. on (before B j i) (weight j p))
+  unfoldable pub sizeBefore : (i p : ℕ) → ℕ
+  sizeBefore i p = sumTo (B .n) (λ j. on (before B j i) (poolSize j p))
 
-  unfoldable pub reach : (i p : ℕ) → ℕ
-  reach i p = ahead i p + weight i p
+  unfoldable pub sizeWith : (i p : ℕ) → ℕ
+  sizeWith i p = sizeBefore i p + poolSize i p
 
   -- the most that can be used of bids whose sizes in pool p sum to x p: by each S, its cut and their sizes outside S
   abbrev pub cost : (ℕ → ℕ) → ℕ → ℕ
@@ -59,7 +59,7 @@ module _ (B : Book) where
 
   -- the used amount of bid i: what it adds to the rank of the bids before it
   unfoldable pub usedAmount : ℕ → ℕ
-  usedAmount i = rank (reach i) - rank (ahead i)
+  usedAmount i = rank (sizeWith i) - rank (sizeBefore i)
 
   unfoldable pub acceptedAmount : ℕ → ℕ
   acceptedAmount i = cond (purchase B i) (size B i - usedAmount i) (usedAmount i)
@@ -96,14 +96,14 @@ module _ (B : Book) where
 
   -- the rate of a sale accepted above 0, else 0; the greatest in pool p
   unfoldable pub offer : ℕ → ℕ
-  offer i = on (ltb 0 (acceptedAmount i) && sale B i) (rate i)
+  offer i = on (ltb 0 (acceptedAmount i) && sale B i) (positivePrice i)
 
-  unfoldable pub peak : ℕ → ℕ
-  peak p = maxTo (B .n) (λ i. on (eqb (poolIndex B i) p) (offer i))
+  unfoldable pub highestOffer : ℕ → ℕ
+  highestOffer p = maxTo (B .n) (λ i. on (eqb (poolIndex B i) p) (offer i))
 
   -- a pool's two cells, its price and its presence
   abbrev pub closedPrice : ℕ → ℕ
-  closedPrice p = on (ltb 0 (peak p)) (minus (peak p) (suc priceLimit))
+  closedPrice p = on (ltb 0 (highestOffer p)) (minus (highestOffer p) (suc priceLimit))
 
   abbrev pub closedPresence : ℕ → ℕ
-  closedPresence p = on (ltb 0 (peak p)) 1
+  closedPresence p = on (ltb 0 (highestOffer p)) 1

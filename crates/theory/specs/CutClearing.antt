@@ -10,7 +10,7 @@ use Rattle.definitions.specs.Arithmetic.{on, sumTo, sumZ}
 use Rattle.definitions.specs.Book.{Book, price, purchase, sale, size, capacity}
 use Rattle.definitions.specs.Clearing.{Clearing, Feasible, before, used, welfare, value, Best, Permitted}
 use Rattle.laws.specs.AcceptedBook.{Sound, poolIndex, raisedPrice}
-use Rattle.theory.specs.Integers.{over, under, subtract-read, sum-read, le-read}
+use Rattle.theory.specs.Integers.{positivePart, negativePart, subtract-read, sum-read, le-read}
 use Rattle.theory.specs.Balance.{feasible-same}
 use Rattle.theory.specs.Flows.{WithinCuts, lineFlow, flow-first}
 use Rattle.theory.specs.Greatest.{bestUsed, best-within-cuts, best-greatest}
@@ -75,7 +75,7 @@ module _ (B : Book) (ok : Sound B) where
 
   -- at raised prices, welfare is what the purchases pay less what the sales take
   welfare-read : (c : Clearing) → Feasible B c
-      → over (welfare B (c .accepted)) + taken (networkOf B) (λ i. raisedPrice B i) (c .accepted) ≡ paid (networkOf B) (λ i. raisedPrice B i) (c .accepted) + under (welfare B (c .accepted))
+      → positivePart (welfare B (c .accepted)) + taken (networkOf B) (λ i. raisedPrice B i) (c .accepted) ≡ paid (networkOf B) (λ i. raisedPrice B i) (c .accepted) + negativePart (welfare B (c .accepted))
   unfolding welfare taken paid
   welfare-read c h =
       omega (

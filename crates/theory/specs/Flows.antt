@@ -14,7 +14,7 @@ use Rattle.laws.specs.Sum.{sum-ext, sum-le, sum-add, sum-zero, sum-one, sum-le-
 use Rattle.laws.specs.Tests.{Eq?, same, diff, eq?, Lt?, less, more, lt?}
 use Rattle.theory.specs.Subsets.{LooksBelow, member, mask, mask-lt, mask-member}
 use Rattle.theory.specs.Network.{goesOut, comesIn, Network, SoundNetwork, demand, leaving, entering, cut, amountIn, _∪_, _∩_, lines-submodular-at, demand-modular, demand-ext, leaving-ext}
-use Rattle.theory.specs.Balance.{only, others, all, arriving, departing, FeasibleUse, net, cut-balance}
+use Rattle.theory.specs.Balance.{only, complement, all, arriving, departing, FeasibleUse, net, cut-balance}
 use Rattle.theory.specs.Choices.{on-monotone, on-not, on-zero}
 
 -- what is left of line j: the least of its capacity and the slacks of the sets that it leaves
@@ -233,25 +233,25 @@ module _ (N : Network) (ok : SoundNetwork N) (x : ℕ → ℕ) where
   balance-after c (suc k) l = balance-next k l (balance-after c k (omega arith))
 
 -- at the end: what enters a set leaves the others, and what leaves it enters them
-entering-leaving : (N : Network) (f : ℕ → ℕ) (S : ℕ → Bool) → entering N f S ≡ leaving N f (others S)
+entering-leaving : (N : Network) (f : ℕ → ℕ) (S : ℕ → Bool) → entering N f S ≡ leaving N f (complement S)
 unfolding entering leaving
 entering-leaving N f S = sum-ext _ _ _ (λ j l. ap (λ (t : Bool). on (not (S (N .source j)) && t) (f j)) (sym (Bool·not-not (S (N .target j)))))
 
-leaving-entering : (N : Network) (f : ℕ → ℕ) (S : ℕ → Bool) → leaving N f S ≡ entering N f (others S)
+leaving-entering : (N : Network) (f : ℕ → ℕ) (S : ℕ → Bool) → leaving N f S ≡ entering N f (complement S)
 unfolding entering leaving
 leaving-entering N f S = sum-ext _ _ _ (λ j l. ap (λ (s : Bool). on (s && not (S (N .target j))) (f j)) (sym (Bool·not-not (S (N .source j)))))
 
-amountIn-others : (N : Network) (x : ℕ → ℕ) (S : ℕ → Bool) → amountIn N x S + amountIn N x (others S) ≡ amountIn N x all
+amountIn-complement : (N : Network) (x : ℕ → ℕ) (S : ℕ → Bool) → amountIn N x S + amountIn N x (complement S) ≡ amountIn N x all
 unfolding amountIn
-amountIn-others N x S = sym (sum-add (N .bids) _ _) ∙ sum-ext _ _ _ (λ i l. on-not (S (N .pool i)) (x i))
+amountIn-complement N x S = sym (sum-add (N .bids) _ _) ∙ sum-ext _ _ _ (λ i l. on-not (S (N .pool i)) (x i))
 
-demand-others-one : (s t : Bool) (v : ℕ) → on (s && t) v + on (not s && t) v ≡ on (true && t) v
-demand-others-one true t v = omega arith
-demand-others-one false t v = omega arith
+demand-complement-one : (s t : Bool) (v : ℕ) → on (s && t) v + on (not s && t) v ≡ on (true && t) v
+demand-complement-one true t v = omega arith
+demand-complement-one false t v = omega arith
 
-demand-others : (N : Network) (S : ℕ → Bool) → demand N S + demand N (others S) ≡ demand N all
+demand-complement : (N : Network) (S : ℕ → Bool) → demand N S + demand N (complement S) ≡ demand N all
 unfolding demand
-demand-others N S = sym (sum-add (N .bids) _ _) ∙ sum-ext _ _ _ (λ i l. demand-others-one (S (N .pool i)) (N .purchase i) (N .size i))
+demand-complement N S = sym (sum-add (N .bids) _ _) ∙ sum-ext _ _ _ (λ i l. demand-complement-one (S (N .pool i)) (N .purchase i) (N .size i))
 
 pub record WithinCuts (N : Network) (x : ℕ → ℕ) : Type 0 where
   pub ok : SoundNetwork N
@@ -273,7 +273,7 @@ module _ (N : Network) (x : ℕ → ℕ) (given : WithinCuts N x) where
 
   slack-end : (S : ℕ → Bool) → slack N x (N .lines) S ≡ 0
   slack-end S =
-      omega (arith, balance-end S, balance-end (others S), entering-leaving N (lineFlow N x) S, leaving-entering N (lineFlow N x) S, amountIn-others N x S, demand-others N S, given .whole)
+      omega (arith, balance-end S, balance-end (complement S), entering-leaving N (lineFlow N x) S, leaving-entering N (lineFlow N x) S, amountIn-complement N x S, demand-complement N S, given .whole)
 
   flow-balance : (S : ℕ → Bool) → amountIn N x S + arriving N (lineFlow N x) S ≡ demand N S + departing N (lineFlow N x) S
   flow-balance S = omega (arith, balance-end S, slack-end S, net N (lineFlow N x) S)

@@ -6,7 +6,7 @@ use lib.ListN.{drop, length-drop}
 use borrow.Author.Tests.{lt-ltb, le-ltb}
 use Rattle.definitions.specs.Bytes.{mostGroups, numberLimit, number, readGroups, numberAt}
 use Rattle.codec.specs.Answer.{groupsAnswer}
-use Rattle.codec.specs.Groups.{only-shortest}
+use Rattle.codec.specs.Groups.{only-shortest-groups}
 use borrow.Author.Needs.{needs}
 use Rattle.codec.proofs.read_number.Statement.{statement}
 use Rattle.codec.proofs.read_number.Tie as tie
@@ -31,7 +31,7 @@ add-t12 : tie.Need-add-t12
 add-t12 c =
     let s = c .before .before .before .before .before .before in
     let a = s .args in
-    let r = only-shortest mostGroups true (drop (a .at) (a .bytes .now)) _ _ (read-there (c .before)) in
+    let r = only-shortest-groups mostGroups true (drop (a .at) (a .bytes .now)) _ _ (read-there (c .before)) in
     omega (arith, r .inside, length-drop (a .at) (a .bytes .now), s .fits .at, s .good)
 
 returns : tie.Need-returns

@@ -7,7 +7,7 @@ use lib.ListN.{length, length-set}
 use Rattle.definitions.specs.Settle.{decimalTo}
 use Rattle.laws.specs.Tests.{positive}
 use Rattle.listing.specs.Digits.{no-digits, one-digit, more-digits}
-use Rattle.listing.specs.Put.{nothing, byte, then, same-bytes, same-room, room-first, room-second}
+use Rattle.listing.specs.Put.{nothing, byte, then-put, same-bytes, same-room, room-first, room-second}
 use borrow.Fn.Kinds.{In}
 use borrow.Fn.PlainCycle.{Measures, is, falls, and}
 use Rattle.listing.proofs.put_digits.Reads as put-digits
@@ -143,7 +143,7 @@ put-digits-returns-3 : (t : ℕ) → put-digits-lts.Need-returns-3 (
 put-digits-returns-3 t c =
     let a = c .before .before .before .before .before .before .before .args in
     let p = c .before .before .put-digits in
-    same-bytes (sym (several t (c .before .before .before .before))) (then (p .ensures) (byte (p .last .0) (p .result) (48 + a .v % 10)))
+    same-bytes (sym (several t (c .before .before .before .before))) (then-put (p .ensures) (byte (p .last .0) (p .result) (48 + a .v % 10)))
 
 pub +put-digits-spec : {M : Type 1} → statement M
 +put-digits-spec = close μ-put-digits λ t. put-digits-lts.spec (

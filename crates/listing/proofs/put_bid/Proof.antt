@@ -6,7 +6,7 @@ use mir.Val.{toZ, ofZ}
 use Rattle.definitions.specs.Settle.{decimal, space, bidWord, bidLine}
 use Rattle.listing.specs.Lines.{lastField}
 use Rattle.listing.specs.Negative.{widened, widened-fits}
-use Rattle.listing.specs.Put.{then, same-bytes, same-room, room-first, room-second}
+use Rattle.listing.specs.Put.{then-put, same-bytes, same-room, room-first, room-second}
 use borrow.Author.Needs.{needs}
 use Rattle.listing.proofs.put_bid.Statement.{statement}
 use Rattle.listing.proofs.put_bid.Tie as tie
@@ -39,7 +39,7 @@ same-length c = search needs
 returns : tie.Need-returns
 unfolding bidLine
 returns c =
-    then (c .before .before .before .before .before .before .put-field .ensures)
+    then-put (c .before .before .before .before .before .before .put-field .ensures)
     (same-bytes (last (c .before .before .before .before .before .before .before .before .before .before)) (c .before .before .put-last .ensures))
 
 pub put-bid-spec : {M : Type 1} → statement M

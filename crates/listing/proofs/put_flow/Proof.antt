@@ -10,7 +10,7 @@ use Rattle.definitions.specs.Settle.{decimal, space, lineWord, flowLine}
 use Rattle.laws.specs.SignedTests.{right}
 use Rattle.listing.specs.Lines.{lastField}
 use Rattle.listing.specs.Negative.{widened, widened-fits}
-use Rattle.listing.specs.Put.{nothing, then, same-bytes, same-room, room-first, room-second}
+use Rattle.listing.specs.Put.{nothing, then-put, same-bytes, same-room, room-first, room-second}
 use borrow.Author.Needs.{needs}
 use Rattle.listing.proofs.put_flow.Statement.{statement}
 use Rattle.listing.proofs.put_flow.Tie as tie
@@ -67,8 +67,8 @@ same-length c = search needs
 returns : tie.Need-returns
 returns c =
     same-bytes (sym (line (c .before .before .before .before .before .before .before .before .before .before .before .before .before .before)))
-    (then (c .before .before .before .before .before .before .before .before .before .before .before .put-field .ensures)
-    (then (c .before .before .before .before .before .before .put-field2 .ensures)
+    (then-put (c .before .before .before .before .before .before .before .before .before .before .before .put-field .ensures)
+    (then-put (c .before .before .before .before .before .before .put-field2 .ensures)
     (same-bytes (last (c .before .before .before .before .before .before .before .before .before .before .before .before .before .before .before .before)) (c .before .before .put-last .ensures))))
 
 returns-2 : tie.Need-returns-2

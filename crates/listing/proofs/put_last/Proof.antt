@@ -8,7 +8,7 @@ use mir.Syntax.{w64}
 use mir.Val.{toZ, ofZ}
 use mir.Facts.{toZ-ofZ}
 use Rattle.definitions.specs.Settle.{decimalZ, newline}
-use Rattle.listing.specs.Put.{Put, then, same-bytes, same-room, room-first, room-second}
+use Rattle.listing.specs.Put.{Put, then-put, same-bytes, same-room, room-first, room-second}
 use Rattle.listing.proofs.put_last.Statement.{statement}
 use Rattle.listing.proofs.put_last.Tie as tie
 
@@ -47,8 +47,8 @@ same-length c = search needs
 
 returns : tie.Need-returns
 returns c =
-    then (c .before .before .before .before .before .before .before .before .before .before .before .put-word .ensures)
-    (then (signed (c .before .before .before .before .before .before .before)) (c .before .before .put-word2 .ensures))
+    then-put (c .before .before .before .before .before .before .before .before .before .before .before .put-word .ensures)
+    (then-put (signed (c .before .before .before .before .before .before .before)) (c .before .before .put-word2 .ensures))
 
 pub put-last-spec : {M : Type 1} → statement M
 put-last-spec =

@@ -8,7 +8,7 @@ use mir.Syntax.{w64}
 use mir.Val.{toZ, ofZ}
 use mir.Facts.{toZ-ofZ}
 use Rattle.definitions.specs.Settle.{bidLines, flowLines, priceLines, welfareLine, listing}
-use Rattle.listing.specs.Put.{then, same-bytes, same-room, room-start, room-first, room-second}
+use Rattle.listing.specs.Put.{then-put, same-bytes, same-room, room-start, room-first, room-second}
 use borrow.Author.Needs.{needs}
 use Rattle.listing.proofs.put_listing.Statement.{statement}
 use Rattle.listing.proofs.put_listing.Tie as tie
@@ -57,9 +57,9 @@ same-length c = search needs
 returns : tie.Need-returns
 unfolding listing
 returns c =
-    then (c .before .before .before .before .before .before .before .before .before .before .before .before .before .before .put-bids .ensures)
-    (then (c .before .before .before .before .before .before .before .before .before .before .put-flows .ensures)
-    (then (c .before .before .before .before .before .before .put-prices .ensures)
+    then-put (c .before .before .before .before .before .before .before .before .before .before .before .before .before .before .put-bids .ensures)
+    (then-put (c .before .before .before .before .before .before .before .before .before .before .put-flows .ensures)
+    (then-put (c .before .before .before .before .before .before .put-prices .ensures)
     (same-bytes (last (c .before .before .before .before .before .before .before .before .before .before .before .before .before .before .before .before .before)) (c .before .before .put-welfare .ensures))))
 
 pub put-listing-spec : {M : Type 1} → statement M

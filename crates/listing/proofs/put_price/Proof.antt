@@ -10,7 +10,7 @@ use Rattle.definitions.specs.Settle.{decimal, space, newline, priceWord, noneWo
 use Rattle.laws.specs.SignedTests.{right}
 use Rattle.listing.specs.Lines.{lastField}
 use Rattle.listing.specs.Negative.{widened, widened-fits}
-use Rattle.listing.specs.Put.{then, same-bytes, same-room, room-first, room-second}
+use Rattle.listing.specs.Put.{then-put, same-bytes, same-room, room-first, room-second}
 use borrow.Author.Needs.{needs}
 use Rattle.listing.proofs.put_price.Statement.{statement}
 use Rattle.listing.proofs.put_price.Tie as tie
@@ -52,7 +52,7 @@ same-length c = search needs
 returns : tie.Need-returns
 unfolding priceLine
 returns c =
-    then (c .before .before .before .before .before .before .before .put-field .ensures)
+    then-put (c .before .before .before .before .before .before .before .put-field .ensures)
     (same-bytes (present (c .before .before .before .before)) (c .before .before .put-last .ensures))
 
 slice-aggregate-put-word : tie.Need-slice-aggregate-put-word
@@ -67,7 +67,7 @@ same-length-2 c = search needs
 returns-2 : tie.Need-returns-2
 unfolding priceLine
 returns-2 c =
-    then (c .before .before .before .before .before .before .before .before .put-field .ensures)
+    then-put (c .before .before .before .before .before .before .before .before .put-field .ensures)
     (same-bytes (missing (c .before .before .before .before .before)) (c .before .before .put-word .ensures))
 
 pub put-price-spec : {M : Type 1} → statement M

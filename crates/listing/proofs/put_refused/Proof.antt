@@ -3,7 +3,7 @@ use Prim.Native.Nat.{_+_, _≤_}
 use mathlib.Core.List.{_++_}
 use lib.ListN.{length}
 use Rattle.definitions.specs.Settle.{decimal, space, newline, refusedWord, refusedText}
-use Rattle.listing.specs.Put.{then, room-start, room-first, room-second}
+use Rattle.listing.specs.Put.{then-put, room-start, room-first, room-second}
 use borrow.Author.Needs.{needs}
 use Rattle.listing.proofs.put_refused.Statement.{statement}
 use Rattle.listing.proofs.put_refused.Tie as tie
@@ -45,8 +45,8 @@ same-length c = search needs
 returns : tie.Need-returns
 unfolding refusedText
 returns c =
-    then (c .before .before .before .before .before .before .before .before .before .before .before .before .put-field .ensures)
-    (then (c .before .before .before .before .before .before .before .put-field2 .ensures) (c .before .before .put-word .ensures))
+    then-put (c .before .before .before .before .before .before .before .before .before .before .before .before .put-field .ensures)
+    (then-put (c .before .before .before .before .before .before .before .put-field2 .ensures) (c .before .before .put-word .ensures))
 
 pub put-refused-spec : {M : Type 1} → statement M
 put-refused-spec =

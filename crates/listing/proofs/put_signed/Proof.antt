@@ -7,7 +7,7 @@ use lib.IntN.{pos, natAbs}
 use mir.Facts.{toZ-ofZ}
 use Rattle.definitions.specs.Settle.{decimal, decimalZ}
 use Rattle.laws.specs.SignedTests.{left}
-use Rattle.listing.specs.Put.{then, same-bytes, byte, room-second}
+use Rattle.listing.specs.Put.{then-put, same-bytes, byte, room-second}
 use Rattle.listing.specs.Negative.{digits-negative, digits-positive}
 use borrow.Author.Needs.{needs}
 use Rattle.listing.proofs.put_signed.Statement.{statement}
@@ -45,7 +45,7 @@ returns : tie.Need-returns
 unfolding decimal
 returns c =
     let s = c .before .before .before .before .before .before .before in
-    same-bytes (sym (below (c .before .before .before .before))) (then (byte (s .args .out .now) (s .args .at) 45) (c .before .before .put-digits .ensures))
+    same-bytes (sym (below (c .before .before .before .before))) (then-put (byte (s .args .out .now) (s .args .at) 45) (c .before .before .put-digits .ensures))
 
 put-digits-requires-2 : tie.Need-put-digits-requires-2
 unfolding decimal

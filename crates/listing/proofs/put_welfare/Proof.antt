@@ -5,7 +5,7 @@ use mir.Val.{toZ, ofZ}
 use mir.Facts.{toZ-ofZ}
 use Rattle.definitions.specs.Settle.{welfareWord, welfareLine}
 use Rattle.listing.specs.Lines.{lastField}
-use Rattle.listing.specs.Put.{then, same-bytes, same-room, room-first, room-second}
+use Rattle.listing.specs.Put.{then-put, same-bytes, same-room, room-first, room-second}
 use borrow.Author.Needs.{needs}
 use Rattle.listing.proofs.put_welfare.Statement.{statement}
 use Rattle.listing.proofs.put_welfare.Tie as tie
@@ -35,7 +35,7 @@ same-length c = search needs
 returns : tie.Need-returns
 unfolding welfareLine
 returns c =
-    then (c .before .before .before .before .before .before .put-word .ensures)
+    then-put (c .before .before .before .before .before .before .put-word .ensures)
     (same-bytes (last (c .before .before .before .before .before .before .before .before .before .before)) (c .before .before .put-last .ensures))
 
 pub put-welfare-spec : {M : Type 1} → statement M

@@ -4,7 +4,7 @@ use mathlib.Core.Path.{_≡_, refl, _∙_}
 use native.Mathlib.Omega.{arith}
 use lib.ListN.{length, length-set}
 use lib.Seq.{paste, paste-zero}
-use Rattle.laws.specs.Write.{one-more, all}
+use Rattle.laws.specs.Write.{one-more, all-written}
 use Rattle.listing.specs.Put.{written-put}
 use Rattle.listing.proofs.put_word.Statement.{statement}
 use Rattle.listing.proofs.put_word.Tie as tie
@@ -53,7 +53,7 @@ returns c =
     let l = c .before .loop in
     let a = c .before .before .args in
     let e : l .i ≡ length (a .word .now) = omega arith in
-    rw e (written-put (a .out .now) (l .out) (a .at) (a .word .now) (c .before .before .pre) (all (a .out .now) (l .out) (a .at) (a .word .now) (l .i) (l .inv .2) e))
+    rw e (written-put (a .out .now) (l .out) (a .at) (a .word .now) (c .before .before .pre) (all-written (a .out .now) (l .out) (a .at) (a .word .now) (l .i) (l .inv .2) e))
 
 pub put-word-spec : {M : Type 1} → statement M
 put-word-spec =

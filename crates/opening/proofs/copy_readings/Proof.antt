@@ -10,7 +10,7 @@ use lib.Seq.{paste, paste-zero}
 use mir.Syntax.{w32}
 use borrow.Author.Needs.{needs, scaled-fits}
 use Rattle.laws.specs.SignedTests.{back}
-use Rattle.laws.specs.Write.{one-more, all}
+use Rattle.laws.specs.Write.{one-more, all-written}
 use Rattle.residues.specs.Residues.{read-residue}
 use Rattle.opening.proofs.Readings.{readings, readings-length, reading-at, written-over}
 use Rattle.opening.proofs.copy_readings.Statement.{statement}
@@ -83,7 +83,7 @@ returns : tie.Need-returns Inv-loop μ-loop
 returns c =
     let s = c .before .before .before in
     let l = c .before .loop in
-    all (s .args .out .now) (l .out) 0 (source s) (l .i) (l .inv .2) (rw (source-length s) (omega arith))
+    all-written (s .args .out .now) (l .out) 0 (source s) (l .i) (l .inv .2) (rw (source-length s) (omega arith))
     ∙ written-over (s .args .out .now) (source s) (omega (arith, source-length s))
 
 pub copy-readings-spec : {M : Type 1} → statement M

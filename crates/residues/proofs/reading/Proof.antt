@@ -9,7 +9,7 @@ use mir.Syntax.{w32}
 use mir.Val.{toZ, SFits}
 use mir.Facts.{toZ-pos, toZ-ofZ}
 use Rattle.definitions.specs.Limits.{modulus, greatestPositive}
-use Rattle.residues.specs.Residues.{lowered}
+use Rattle.residues.specs.Residues.{less-modulus}
 use Rattle.residues.proofs.reading.Statement.{statement}
 use Rattle.residues.proofs.reading.Tie as tie
 
@@ -27,7 +27,7 @@ cast-result-2 : tie.Need-cast-result-2
 cast-result-2 c = search needs
 
 sub-result : tie.Need-sub-result
-sub-result c = rw (itself (c .before), lowered (c .before .before .args .x) (c .before .if1 .left)) (record { sfits = omega arith })
+sub-result c = rw (itself (c .before), less-modulus (c .before .before .args .x) (c .before .if1 .left)) (record { sfits = omega arith })
 
 returns-2 : tie.Need-returns-2
 returns-2 c =

@@ -6,7 +6,7 @@ use native.Mathlib.Omega.{arith}
 use lib.ListN.{length, set, replicate, length-set, length-replicate, getD-replicate}
 use lib.Seq.{paste, paste-zero}
 use borrow.Author.Needs.{scaled-fits}
-use Rattle.laws.specs.Write.{written, one-more, all}
+use Rattle.laws.specs.Write.{written, one-more, all-written}
 use Rattle.sealing.proofs.clear_from.Statement.{statement}
 use Rattle.sealing.proofs.clear_from.Tie as tie
 
@@ -33,7 +33,7 @@ cleared s₀ s at c h k e =
     ∙ ap (paste s₀ at z) (let q : c - at + 1 ≡ c + 1 - at = omega arith in q)
 
 done : (s₀ s : List ℕ) (at c : ℕ) → at ≤ c → c ≡ length s₀ → s ≡ paste s₀ at (zeros s₀ at) (c - at) → s ≡ written s₀ at (zeros s₀ at)
-done s₀ s at c h k e = all s₀ s at (zeros s₀ at) (c - at) e (rw length-replicate (omega arith))
+done s₀ s at c h k e = all-written s₀ s at (zeros s₀ at) (c - at) e (rw length-replicate (omega arith))
 
 loop-holds : tie.Need-loop-holds Inv-loop μ-loop
 loop-holds c = (omega arith, c .pre, refl, begun (c .args .sheet .now) (c .args .at))

@@ -10,7 +10,7 @@ use mir.Syntax.{w32}
 use borrow.Author.Needs.{scaled-fits}
 use Rattle.definitions.specs.Arithmetic.{residue}
 use Rattle.laws.specs.SignedTests.{back}
-use Rattle.laws.specs.Write.{one-more, all}
+use Rattle.laws.specs.Write.{one-more, all-written}
 use Rattle.sealing.proofs.write_residues.Statement.{statement}
 use Rattle.sealing.proofs.write_residues.Tie as tie
 
@@ -72,7 +72,7 @@ returns : tie.Need-returns Inv-loop μ-loop
 returns c =
     let a = c .before .before .before .args in
     let l = c .before .loop in
-    all (a .sheet .now) (l .sheet) (a .at) (map residue (a .numbers .now)) (l .i) (l .inv .2) (rw length-map (omega arith))
+    all-written (a .sheet .now) (l .sheet) (a .at) (map residue (a .numbers .now)) (l .i) (l .inv .2) (rw length-map (omega arith))
 
 pub write-residues-spec : {M : Type 1} → statement M
 write-residues-spec =

@@ -14,7 +14,7 @@ use mir.Facts.{toZ-ofZ}
 use borrow.Author.Needs.{needs}
 use borrow.Author.Tests.{ltb-true}
 use Rattle.io.specs.Counts.{clamped}
-use Rattle.text.specs.Reading.{Reading, reading, fed}
+use Rattle.text.specs.Reading.{Reading, readSoFar, fed}
 use Rattle.settle.specs.declared.Turn.the-variants.{More, Over}
 use Rattle.settle.specs.Turns.{leftBy, brokenOff, textOver, textOnward, turned}
 use Rattle.settle.proofs.take_turn.Statement.{statement}
@@ -48,7 +48,7 @@ onward s (pos (suc k)) piece e n = ap (λ (l : List ℕ). textOnward (fed s l)) 
 
 -- what was read so far
 abbrev soFar : tie.Start → Reading
-soFar s = reading (s .args .reader) (s .args .numbers .now)
+soFar s = readSoFar (s .args .reader) (s .args .numbers .now)
 
 -- a test of what the read answered, read back from its bits
 answer : (s : tie.Start) {t : Bool} → ltZ (toZ w64 (ofZ w64 (s .args .got))) (pos 0) ≡ t → ltZ (s .args .got) (pos 0) ≡ t

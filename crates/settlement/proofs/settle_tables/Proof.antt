@@ -13,7 +13,7 @@ use Rattle.definitions.specs.Calls.{countsRefusal, sealRefusal}
 use Rattle.definitions.specs.Settle.{readable, refused}
 use Rattle.laws.specs.Search.{turned-away, let-through}
 use Rattle.laws.specs.Sizes.{counted}
-use Rattle.text.specs.Reading.{numberLimit}
+use Rattle.text.specs.Reading.{tableNumbers}
 use Rattle.text.specs.Stages.{called, called-fits}
 use Rattle.plan.specs.Plan.{plan}
 use Rattle.settlement.specs.Settled.{settledSize, settledSlice, settledSheet}
@@ -61,7 +61,7 @@ returns c =
     )
 
 -- the counts pass, so that no more numbers are called for than there are
-enough : (c : tie.Else1) → let a = c .before .before .before .before .before .args in called (a .n) (a .m) ≤ numberLimit
+enough : (c : tie.Else1) → let a = c .before .before .before .before .before .args in called (a .n) (a .m) ≤ tableNumbers
 enough c =
     let judged = c .before .before in
     let a = judged .before .before .before .args in

@@ -13,11 +13,11 @@ use Rattle.laws.specs.Search.{turned-away, let-through}
 use Rattle.laws.specs.Sizes.{Counts, counted}
 use Rattle.laws.specs.Verdicts.{verdictOf, verdict-back}
 use Rattle.text.specs.declared.Counts.the-variants.{Faulty}
-use Rattle.text.specs.Reading.{countsBy}
+use Rattle.text.specs.Reading.{calledBy}
 use Rattle.text.proofs.call_for.Statement.{statement}
 use Rattle.text.proofs.call_for.Tie as tie
 
-faulty : (n m : ℕ) (v : Verdict) (r : Refusal) → refusalOf v ≡ r → isNone r ≡ false → Faulty v ≡ countsBy n m r
+faulty : (n m : ℕ) (v : Verdict) (r : Refusal) → refusalOf v ≡ r → isNone r ≡ false → Faulty v ≡ calledBy n m r
 faulty n m v none e f = absurd (true≢false f)
 faulty n m v (refuse number place) e f = ap Faulty (sym (verdict-back v) ∙ ap verdictOf e)
 

@@ -1,8 +1,8 @@
 -- `text::Reader::step` meets its contract: one law for each return.
 use mathlib.Core.Path.{sym, _∙_}
 use borrow.Author.Needs.{needs}
-use Rattle.text.specs.Steps.{step-over, step-blank, step-grown}
-use Rattle.text.specs.Reading.{reading}
+use Rattle.text.specs.Steps.{step-decided, step-blank, step-grown}
+use Rattle.text.specs.Reading.{readSoFar}
 use Rattle.text.proofs.Reader.step.Statement.{statement}
 use Rattle.text.proofs.Reader.step.Tie as tie
 
@@ -12,7 +12,7 @@ is-over-requires c κs = search needs
 returns : tie.Need-returns
 returns c =
     let a = c .before .before .args in
-    rw (step-over (reading (a .self) (a .numbers .now)) (a .byte) (sym (c .before .is-over .ensures) ∙ c .if1 .taken))
+    rw (step-decided (readSoFar (a .self) (a .numbers .now)) (a .byte) (sym (c .before .is-over .ensures) ∙ c .if1 .taken))
     (search needs)
 
 is-blank-requires : tie.Need-is-blank-requires
@@ -26,7 +26,7 @@ returns-2 c =
     let a = c .before .before .before .before .before .before .args in
     let o = sym (c .before .before .before .before .before .is-over .ensures) ∙ c .before .before .before .before .if1 .left in
     let b = sym (c .before .before .before .is-blank .ensures) ∙ c .before .before .if2 .taken in
-    rw (step-blank (reading (a .self) (a .numbers .now)) (a .byte) o b) (c .end-word .ensures .0, c .end-word .ensures .1)
+    rw (step-blank (readSoFar (a .self) (a .numbers .now)) (a .byte) o b) (c .end-word .ensures .0, c .end-word .ensures .1)
 
 grow-requires : tie.Need-grow-requires
 grow-requires c κs = search needs
@@ -36,7 +36,7 @@ returns-3 c =
     let a = c .before .before .before .before .before .args in
     let o = sym (c .before .before .before .before .is-over .ensures) ∙ c .before .before .before .if1 .left in
     let b = sym (c .before .before .is-blank .ensures) ∙ c .before .if2 .left in
-    rw (step-grown (reading (a .self) (a .numbers .now)) (a .byte) o b, c .grow .ensures) (search needs)
+    rw (step-grown (readSoFar (a .self) (a .numbers .now)) (a .byte) o b, c .grow .ensures) (search needs)
 
 pub step-spec : {M : Type 1} → statement M
 step-spec =
