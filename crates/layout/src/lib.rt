@@ -4,7 +4,7 @@ ghost use Prim.Native.Nat.{_^_, _≤_};
 ghost use Rattle.definitions.specs.Limits.{poolLimit};
 ghost use Rattle.definitions.specs.Answers.{none};
 ghost use Rattle.definitions.specs.Calls.{countsRefusal};
-ghost use Rattle.plan.specs.Names.{placeOf, columnsOf, rowTable, columnTable};
+ghost use Rattle.plan.specs.Names.{familyPlace, columnsOf, rowTable, columnTable};
 ghost use Rattle.layout.specs.Sets.{subsetCount};
 ghost use Rattle.layout.specs.Tables.{AreStarts, StartsOrNone};
 use definitions::Limits;
@@ -70,7 +70,7 @@ pub fn columns_of(m: usize) -> [usize; Family::COUNT]
 
 // The rows of a family, for so many lines and sets of pools.
 fn rows(n: usize, m: usize, lines: usize, sets: usize, f: Family) -> usize
-    ensures { λ r. ⌜ r ≡ placeOf n m lines sets f .1 ⌝ }
+    ensures { λ r. ⌜ r ≡ familyPlace n m lines sets f .1 ⌝ }
 {
     place_of(n, m, lines, sets, f).1
 }
