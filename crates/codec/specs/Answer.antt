@@ -14,6 +14,7 @@ use Rattle.codec.specs.declared.ReadNumber.the-variants as number
 use Rattle.codec.specs.declared.ReadOrder.{ReadOrder}
 use Rattle.codec.specs.declared.ReadOrder.the-variants as order
 
+-- what was read and the offset after it, or a refusal
 pub data ReadResult (A : Type 0) : Type 0 where
   given : A → (next : ℕ) → ReadResult A
   refused : Refusal → ReadResult A
@@ -28,12 +29,12 @@ abbrev pub orderAnswer : ReadOrder → ReadResult Order
 orderAnswer (order.Found o next) = given o next
 orderAnswer (order.Refused verdict) = refused (refusalOf verdict)
 
--- of one number's
+-- the cases of a number's answer
 abbrev pub numberAnswer : ReadNumber → ReadResult ℕ
 numberAnswer (number.Found v next) = given v next
 numberAnswer (number.Refused verdict) = refused (refusalOf verdict)
 
--- and of its groups'
+-- the cases of what its groups give
 abbrev pub groupsAnswer : ReadGroups → Number
 groupsAnswer groups.Short = short
 groupsAnswer groups.Bad = bad
@@ -54,6 +55,7 @@ module _ {A : Type 0} (place : ℕ) (r : Read A) where
       go (fault k) e = absurd (let z : _≡_ {A = ℕ} 0 1 = cc in omega arith)
       go (found b n) e = cc
 
+  -- the fault that was found, and that the refusal states it with its place
   pub record FaultAt (x : Refusal) : Type 0 where
     pub number : ℕ
     pub was : r ≡ fault number

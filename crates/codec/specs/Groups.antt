@@ -1,4 +1,4 @@
--- A number's groups of seven bits, over the number of groups: what is written is read (read-written), and only the shortest form is read (only-shortest).
+-- A number's groups of seven bits, over the number of groups: what is written is read (`groups-read-back`), and only the shortest form is read (`only-shortest-groups`).
 use Prim.Native.Nat.{ℕ, zero, suc, _+_, _*_, _/_, _%_, _<_, _≤_}
 use mathlib.Core.Path.{_≡_, refl, ap, ap₂, _∙_}
 use mathlib.Core.Bool.{Bool, true, false, cond, true≢false}
@@ -76,11 +76,14 @@ groups-bytes (suc g) v i = go (lt? v 128) (groups-bytes g (v / 128)) i
 -- ---- what is written is read
 
 module _ (g : ℕ) (first : Bool) (v : ℕ) (rest : List ℕ) where
-  one-group : lastGroup first v ≡ number v 1 → (128 ≤ v → readGroups g false (groups g (v / 128) ++ rest) ≡ number (v / 128) (length (groups g (v / 128)))) → readGroups (suc g) first (groups (suc g) v ++ rest) ≡ number v (length (groups (suc g) v))
+  one-group : lastGroup first v ≡ number v 1
+      → (128 ≤ v → readGroups g false (groups g (v / 128) ++ rest) ≡ number (v / 128) (length (groups g (v / 128))))
+      → readGroups (suc g) first (groups (suc g) v ++ rest) ≡ number v (length (groups (suc g) v))
   unfolding readGroups groups
   one-group l later = go (ltb v 128) refl
     where
-      go : (t : Bool) → ltb v 128 ≡ t → readGroups (suc g) first (cond t (v ∷ []) ((v % 128 + 128) ∷ groups g (v / 128)) ++ rest) ≡ number v (length (cond t (v ∷ []) ((v % 128 + 128) ∷ groups g (v / 128))))
+      go : (t : Bool) → ltb v 128 ≡ t
+          → readGroups (suc g) first (cond t (v ∷ []) ((v % 128 + 128) ∷ groups g (v / 128)) ++ rest) ≡ number v (length (cond t (v ∷ []) ((v % 128 + 128) ∷ groups g (v / 128))))
       go true q = simp q l
       go false q =
           let h : 128 ≤ v = ltb-false _ _ q in
@@ -190,6 +193,7 @@ only-shortest-groups zero first xs v n e = bad-number e
 only-shortest-groups (suc g) first [] v n e = short-number e
 only-shortest-groups (suc g) first (x ∷ xs) v n e = go (ltb x 128) refl (only-shortest-groups g false xs) e
   where
-    go : (t : Bool) → ltb x 128 ≡ t → ((w k : ℕ) → readGroups g false xs ≡ number w k → ShortestGroups g false xs w k) → cond t (lastGroup first x) (moreGroups x (readGroups g false xs)) ≡ number v n → ShortestGroups (suc g) first (x ∷ xs) v n
+    go : (t : Bool) → ltb x 128 ≡ t → ((w k : ℕ) → readGroups g false xs ≡ number w k → ShortestGroups g false xs w k)
+        → cond t (lastGroup first x) (moreGroups x (readGroups g false xs)) ≡ number v n → ShortestGroups (suc g) first (x ∷ xs) v n
     go true q later e = last-shortest g first x xs v n (ltb-true _ _ q) e
     go false q later e = more-known g first x xs v n (readGroups g false xs) (ltb-false _ _ q) later e

@@ -62,7 +62,8 @@ rest-of t c =
     only-shortest-groups (a .g - 1) false (drop (a .at + 1) (a .bytes .now)) _ _ (sym (c .before .before .before .read-groups .ensures) ∙ ap groupsAnswer (c .before .v .given .1))
 
 -- so its value and its bytes are those of a number of the most groups
-bounded : (t : ℕ) (c : read-groups-lts.After-known-told (read-groups-below t, read-groups.Post) (read-groups-at t) read-groups.Post) → (c .before .v .given .0 .0 < groupsLimit mostGroups) × (c .before .v .given .0 .1 .0 ≤ mostGroups)
+bounded : (t : ℕ) (c : read-groups-lts.After-known-told (read-groups-below t, read-groups.Post) (read-groups-at t) read-groups.Post)
+    → (c .before .v .given .0 .0 < groupsLimit mostGroups) × (c .before .v .given .0 .1 .0 ≤ mostGroups)
 bounded t c =
     let r = rest-of t c in
     let s = c .before .before .before .before .before .before .before .before .before in

@@ -76,7 +76,8 @@ put-two-requires-2 c κs =
     let s = q .before .before in
     let p = q .parts-of .result in
     let h : s .args .at + length (headBytes p ++ (numberBytes (p .a) ++ numberBytes (p .b))) ≤ length (s .args .out .now) = omega (arith, ap length (cells-are (c .before)), s .pre) in
-    second-room (s .args .at) (two .put-two .result) (headBytes p) (numberBytes (p .a) ++ numberBytes (p .b)) (s .args .out .now) (two .put-two .last .0) h (two .put-two .ensures .0) (two .put-two .kept .0)
+    second-room (s .args .at) (two .put-two .result) (headBytes p) (numberBytes (p .a) ++ numberBytes (p .b)) (s .args .out .now)
+    (two .put-two .last .0) h (two .put-two .ensures .0) (two .put-two .kept .0)
 
 same-length-2 : tie.Need-same-length-2
 same-length-2 c = search needs

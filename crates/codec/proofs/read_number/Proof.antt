@@ -12,7 +12,8 @@ use Rattle.codec.proofs.read_number.Statement.{statement}
 use Rattle.codec.proofs.read_number.Tie as tie
 
 -- what was read
-read-there : (c : tie.After-known-told) → let a = c .before .before .before .before .before .args in readGroups mostGroups true (drop (a .at) (a .bytes .now)) ≡ number (c .before .v .given .0 .0) (c .before .v .given .0 .1 .0)
+read-there : (c : tie.After-known-told) → let a = c .before .before .before .before .before .args in
+    readGroups mostGroups true (drop (a .at) (a .bytes .now)) ≡ number (c .before .v .given .0 .0) (c .before .v .given .0 .1 .0)
 read-there c = sym (c .before .before .before .read-groups .ensures) ∙ ap groupsAnswer (c .before .v .given .1)
 
 read-groups-requires : tie.Need-read-groups-requires

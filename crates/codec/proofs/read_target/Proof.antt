@@ -27,7 +27,8 @@ returns-2 : tie.Need-returns-2
 unfolding targetAt
 returns-2 c =
     let a = c .before .before .before .before .before .before .args in
-    found-then (a .start) (cellAt (a .bytes .now) (a .at)) (restAt (a .bytes .now) (a .kind)) (c .before .before .d .given .1) (c .before .before .before .before .read-cell .ensures) (c .read-rest .ensures)
+    found-then (a .start) (cellAt (a .bytes .now) (a .at)) (restAt (a .bytes .now) (a .kind)) (c .before .before .d .given .1)
+    (c .before .before .before .before .read-cell .ensures) (c .read-rest .ensures)
 
 pub read-target-spec : {M : Type 1} → statement M
 read-target-spec =
