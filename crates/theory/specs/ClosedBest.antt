@@ -21,7 +21,7 @@ use Rattle.theory.specs.Subsets.{member}
 use Rattle.theory.specs.Network as network
 use Rattle.theory.specs.Rank as ranks
 use Rattle.theory.specs.Balance.{by-pool, eqb-symmetric}
-use Rattle.theory.specs.Flows as flows
+use Rattle.theory.specs.Slacks as slacks
 use Rattle.theory.specs.Greatest as greatest
 use Rattle.theory.specs.Welfare.{turn}
 use Rattle.theory.specs.MeritOrder.{merit, key-low, key-high}
@@ -175,25 +175,26 @@ module _ (B : Book) (ok : Sound B) where
       sum-ext (B .m) _ _ (λ p l. ap (on (member S p)) (sum-ext (B .n) _ _ (λ i r. ap (on (eqb (poolIndex B i) p)) (used-is-cut i r))))
       ∙ by-pool (B .n) (B .m) (λ i. poolIndex B i) (cutUsed B) (ok .pool-index) (member S)
 
-  rest-is : (k : ℕ) → ((S : ℕ) → slackAfter B k S ≡ flows.slack (networkOf B) (cutUsed B) k (member S)) → restOf B (slackAfter B k) (k / B .m) (k % B .m) ≡ flows.rest (networkOf B) (cutUsed B) k
-  unfolding restOf flows.rest flows.restOf
+  rest-is : (k : ℕ) → ((S : ℕ) → slackAfter B k S ≡ slacks.slack (networkOf B) (cutUsed B) k (member S)) → restOf B (slackAfter B k) (k / B .m) (k % B .m) ≡ slacks.rest (networkOf B) (cutUsed B) k
+  unfolding restOf slacks.rest slacks.restOf
   rest-is k h = min-ext (capacity B (k / B .m) (k % B .m)) (2 ^ B .m) _ _ (λ S l. rw (h S) refl)
 
-  flow-is : (k : ℕ) → ((S : ℕ) → slackAfter B k S ≡ flows.slack (networkOf B) (cutUsed B) k (member S)) → lineFlow B k ≡ flows.lineFlow (networkOf B) (cutUsed B) k
-  unfolding flowOf flows.lineFlow
+  flow-is : (k : ℕ) → ((S : ℕ) → slackAfter B k S ≡ slacks.slack (networkOf B) (cutUsed B) k (member S)) → lineFlow B k ≡ slacks.lineFlow (networkOf B) (cutUsed B) k
+  unfolding flowOf slacks.lineFlow
   flow-is k h = ap (λ (v : ℕ). capacity B (k / B .m) (k % B .m) - v) (rest-is k h)
 
-  taken-is : (k S : ℕ) → ((S : ℕ) → slackAfter B k S ≡ flows.slack (networkOf B) (cutUsed B) k (member S))
+  taken-is : (k S : ℕ) → ((S : ℕ) → slackAfter B k S ≡ slacks.slack (networkOf B) (cutUsed B) k (member S))
       → takenOf B (slackAfter B k) (k / B .m) (k % B .m) S
-      ≡ cond (leaves S (k / B .m) (k % B .m)) (flows.rest (networkOf B) (cutUsed B) k) (on (leaves S (k % B .m) (k / B .m)) (flows.lineFlow (networkOf B) (cutUsed B) k))
+      ≡ cond (leaves S (k / B .m) (k % B .m)) (slacks.rest (networkOf B) (cutUsed B) k) (on (leaves S (k % B .m) (k / B .m)) (slacks.lineFlow (networkOf B) (cutUsed B) k))
   taken-is k S h = ap₂ (λ (r f : ℕ). cond (leaves S (k / B .m) (k % B .m)) r (on (leaves S (k % B .m) (k / B .m)) f)) (rest-is k h) (flow-is k h)
 
-  pub slack-is : (k S : ℕ) → slackAfter B k S ≡ flows.slack (networkOf B) (cutUsed B) k (member S)
-  unfolding slackAfter slack flows.slack flows.rest flows.lineFlow
+  pub slack-is : (k S : ℕ) → slackAfter B k S ≡ slacks.slack (networkOf B) (cutUsed B) k (member S)
+  unfolding slackAfter slack slacks.slack slacks.rest slacks.lineFlow
   slack-is zero S = ap₂ (λ (u v : ℕ). u - v) (cut-is S) (placement-is S)
   slack-is (suc k) S =
       ap₂ (λ (u v : ℕ). u - v) (slack-is k S) (taken-is k S (slack-is k))
-      ∙ taken-less (member S (k / B .m)) (member S (k % B .m)) (flows.slack (networkOf B) (cutUsed B) k (member S)) (flows.rest (networkOf B) (cutUsed B) k) (flows.lineFlow (networkOf B) (cutUsed B) k)
+      ∙ taken-less (member S (k / B .m)) (member S (k % B .m)) (slacks.slack (networkOf B) (cutUsed B) k (member S))
+      (slacks.rest (networkOf B) (cutUsed B) k) (slacks.lineFlow (networkOf B) (cutUsed B) k)
 
   -- ---- no difference is cut off at 0
 
@@ -216,7 +217,7 @@ module _ (B : Book) (ok : Sound B) where
       omega (
         arith,
         taken-is k S (slack-is k),
-        taken-sum (member S (k / B .m)) (member S (k % B .m)) (flows.rest (networkOf B) (cutUsed B) k) (flows.lineFlow (networkOf B) (cutUsed B) k),
+        taken-sum (member S (k / B .m)) (member S (k % B .m)) (slacks.rest (networkOf B) (cutUsed B) k) (slacks.lineFlow (networkOf B) (cutUsed B) k),
         slack-is k S,
         slack-next (networkOf B) (cutUsed B) (within-cuts B ok) k l (member S),
       )

@@ -17,6 +17,7 @@ use Rattle.theory.specs.Flows.{WithinCuts}
 use Rattle.theory.specs.Choices.{iff, and-made}
 use Rattle.theory.specs.StrictOrder.{StrictTotal, place, place-le, place-lt, place-before, place-inj, find}
 
+-- the bids before bid i
 abbrev pub ahead : (ℕ → ℕ → Bool) → ℕ → ℕ → Bool
 ahead before i = λ j. before j i
 

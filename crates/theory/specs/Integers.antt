@@ -11,11 +11,12 @@ use borrow.Author.Tests.{ltb-true, ltb-false, lt-ltb, le-ltb, ne-eqb}
 use Rattle.definitions.specs.Arithmetic.{on, sumTo, sumZ, eqZ}
 use Rattle.laws.specs.Tests.{Lt?, less, more, lt?, Eq?, same, diff, eq?}
 
--- z is over z less under z, one of which is 0
+-- a whole number is its positive part less its negative part, one of which is 0
 abbrev pub positivePart : ℤ → ℕ
 positivePart (pos n) = n
 positivePart (negsuc n) = 0
 
+-- z's size if it is below 0, else 0
 abbrev pub negativePart : ℤ → ℕ
 negativePart (pos n) = 0
 negativePart (negsuc n) = suc n
@@ -94,6 +95,7 @@ not-less x y e = le-read y x (omega (arith, ltb-false (positivePart x + negative
 
 -- ---- numbers raised by c, so that none is negative
 
+-- h is z raised by c
 abbrev pub RaisedBy : ℕ → ℤ → ℕ → Type 0
 RaisedBy c z h = positivePart z + c ≡ h + negativePart z
 
@@ -109,7 +111,9 @@ raised-le c x y h k e f l = omega (arith, read-le x y l)
 
 pub raised-equal : (c : ℕ) (x y : ℤ) (h k : ℕ) → RaisedBy c x h → RaisedBy c y k → eqZ x y ≡ eqb h k
 raised-equal c x y h k e f =
-    eq-read x y ∙ same-equal (positivePart x + negativePart y) (positivePart y + negativePart x) h k (λ q. omega arith) (λ q. omega arith) (eq? (positivePart x + negativePart y) (positivePart y + negativePart x)) (eq? h k)
+    eq-read x y
+    ∙ same-equal (positivePart x + negativePart y) (positivePart y + negativePart x) h k (λ q. omega arith) (λ q. omega arith)
+    (eq? (positivePart x + negativePart y) (positivePart y + negativePart x)) (eq? h k)
 
 -- ---- a sum of price × amount over the bids with a test, at prices raised by c
 

@@ -20,9 +20,11 @@ bidSum N v B = sumTo (N .bids) (λ i. on (B i) (v i))
 unfoldable pub outside : Network → (ℕ → Bool) → (ℕ → Bool) → ℕ
 outside N B S = sumTo (N .bids) (λ i. on (B i && not (S (N .pool i))) (N .size i))
 
+-- what a set S of pools allows the bids in B to use: its cut, and their sizes outside S
 unfoldable pub cost : Network → (ℕ → Bool) → (ℕ → Bool) → ℕ
 cost N B S = cut N S + outside N B S
 
+-- the most that the bids in B can use: the least that a set allows
 unfoldable pub rank : Network → (ℕ → Bool) → ℕ
 rank N B = least (N .pools) (cost N B)
 

@@ -13,7 +13,8 @@ use Rattle.theory.specs.Subsets.{member}
 use Rattle.theory.specs.Network.{Network, SoundNetwork, demand, amountIn}
 use Rattle.theory.specs.Rank.{bidSum, rank-bound}
 use Rattle.theory.specs.Balance.{amountIn-same, only, all, arriving, departing, FeasibleUse, cut-bound, cut-total}
-use Rattle.theory.specs.Flows.{lineFlow, flow-feasible}
+use Rattle.theory.specs.Slacks.{lineFlow}
+use Rattle.theory.specs.Flows.{flow-feasible}
 use Rattle.theory.specs.Greatest.{bestUsed, best-initial, best-within-cuts, Initial}
 use Rattle.theory.specs.StrictOrder.{StrictTotal}
 use Rattle.theory.specs.Choices.{on-not}
@@ -102,10 +103,11 @@ turn-size N a i h = go (N .purchase i)
     go true = omega arith
     go false = omega arith
 
--- the sum of a over the sales in S, over the purchases in S
+-- the sum of a over the sales in S
 unfoldable pub soldIn : Network → (ℕ → ℕ) → (ℕ → Bool) → ℕ
 soldIn N a S = sumTo (N .bids) (λ i. on (S (N .pool i) && not (N .purchase i)) (a i))
 
+-- the sum of a over the purchases in S
 unfoldable pub boughtIn : Network → (ℕ → ℕ) → (ℕ → Bool) → ℕ
 boughtIn N a S = sumTo (N .bids) (λ i. on (S (N .pool i) && N .purchase i) (a i))
 
@@ -146,10 +148,11 @@ feasible-clearing N x f c = record {
   );
 }
 
--- What the purchases pay and the sales take, at these prices. Welfare is the first less the second.
+-- what the purchases pay at these prices; welfare is this less what the sales take
 unfoldable pub paid : Network → (ℕ → ℕ) → (ℕ → ℕ) → ℕ
 paid N price a = sumTo (N .bids) (λ i. on (N .purchase i) (price i * a i))
 
+-- what the sales take
 unfoldable pub taken : Network → (ℕ → ℕ) → (ℕ → ℕ) → ℕ
 taken N price a = sumTo (N .bids) (λ i. on (not (N .purchase i)) (price i * a i))
 
