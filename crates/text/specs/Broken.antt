@@ -16,12 +16,12 @@ use Rattle.definitions.specs.Answers.{none, refuse}
 use Rattle.definitions.specs.Calls.{countsRefusal}
 use Rattle.definitions.specs.Settle.{Whole, noNumber, whole, wholeOf, Numbers, noNumbers, numbers, wordNumbers}
 use Rattle.definitions.specs.Settle.{Input, unreadable, refused, readable, tables, afterCounts, withCounts, inputOf, words, settleInput}
-use Rattle.text.specs.declared.Word.{Word}
-use Rattle.text.specs.declared.Word.the-variants.{Empty, Minus, Digits, NoNumber}
-use Rattle.text.specs.declared.Ended.{Ended}
-use Rattle.text.specs.declared.Ended.the-variants.{Nothing, Fault, Number}
-use Rattle.text.specs.declared.Stage.{Stage}
-use Rattle.text.specs.declared.Stage.the-variants as stage
+use Rattle.text.specs.declared.words.Word.{Word}
+use Rattle.text.specs.declared.words.Word.the-variants.{Empty, Minus, Digits, NoNumber}
+use Rattle.text.specs.declared.words.Ended.{Ended}
+use Rattle.text.specs.declared.words.Ended.the-variants.{Nothing, Fault, Number}
+use Rattle.text.specs.declared.stages.Stage.{Stage}
+use Rattle.text.specs.declared.stages.Stage.the-variants as stage
 use Rattle.text.specs.declared.Input as answer
 use Rattle.text.specs.declared.Input.the-variants as answers
 use Rattle.text.specs.Words.{grownBy, endedOf}
@@ -82,7 +82,7 @@ no-number Minus = refl
 no-number (Digits negative value) = refl
 no-number NoNumber = refl
 
--- and once the answer is known it stays
+-- once the answer is known it stays
 unreadable-stays : (e : Ended) → NoBook (stageInput (takenBy stage.Unreadable e))
 unreadable-stays Nothing = tt
 unreadable-stays Fault = tt

@@ -13,13 +13,13 @@ use Rattle.definitions.specs.Calls.{countsRefusal}
 use Rattle.laws.specs.Verdicts.{verdictOf}
 use Rattle.definitions.specs.Settle.{blank}
 use Rattle.definitions.specs.Settle as settle
-use Rattle.text.specs.declared.Word.the-variants.{Empty}
-use Rattle.text.specs.declared.Ended.{Ended}
-use Rattle.text.specs.declared.Ended.the-variants.{Nothing, Fault, Number}
-use Rattle.text.specs.declared.Stage.{Stage}
-use Rattle.text.specs.declared.Stage.the-variants as stage
-use Rattle.text.specs.declared.Counts.{Counts}
-use Rattle.text.specs.declared.Counts.the-variants.{Numbers, Faulty}
+use Rattle.text.specs.declared.words.Word.the-variants.{Empty}
+use Rattle.text.specs.declared.words.Ended.{Ended}
+use Rattle.text.specs.declared.words.Ended.the-variants.{Nothing, Fault, Number}
+use Rattle.text.specs.declared.stages.Stage.{Stage}
+use Rattle.text.specs.declared.stages.Stage.the-variants as stage
+use Rattle.text.specs.declared.stages.Counts.{Counts}
+use Rattle.text.specs.declared.stages.Counts.the-variants.{Numbers, Faulty}
 use Rattle.text.specs.declared.Input.{Input}
 use Rattle.text.specs.declared.Input.the-variants as input
 use Rattle.text.specs.declared.Reader.{Reader}
@@ -36,6 +36,7 @@ abbrev pub calledBy : (n m : ℕ) → Refusal → Counts
 calledBy n m none = Numbers (bidNumbers * n + m * m)
 calledBy n m (refuse number place) = Faulty (verdictOf (refuse number place))
 
+-- what n and m call for
 abbrev pub calledFor : (n m : ℕ) → Counts
 calledFor n m = calledBy n m (countsRefusal n m)
 
@@ -65,6 +66,7 @@ faulted (stage.Tables n m read) = stage.Unreadable
 faulted stage.Unreadable = stage.Unreadable
 faulted (stage.Refused verdict) = stage.Refused verdict
 
+-- the stage after a word has ended
 abbrev pub takenBy : Stage → Ended → Stage
 takenBy s Nothing = s
 takenBy s Fault = faulted s
@@ -75,6 +77,7 @@ abbrev pub placeWithin : (read : ℕ) → Counts → ℕ
 placeWithin read (Numbers called) = cond (ltb read called) read tableNumbers
 placeWithin read (Faulty verdict) = tableNumbers
 
+-- where the number that comes next in a stage is stored
 abbrev pub placeFor : Stage → ℕ
 placeFor stage.First = tableNumbers
 placeFor (stage.Second n) = tableNumbers
@@ -82,6 +85,7 @@ placeFor (stage.Tables n m read) = placeWithin read (calledFor n m)
 placeFor stage.Unreadable = tableNumbers
 placeFor (stage.Refused verdict) = tableNumbers
 
+-- the numbers with the one of a word that has ended, if it has a place
 abbrev pub storedAt : Ended → ℕ → List ℤ → List ℤ
 storedAt Nothing at numbers = numbers
 storedAt Fault at numbers = numbers
@@ -102,9 +106,11 @@ pub record Reading : Type 0 where
   pub reader : Reader
   pub numbers : List ℤ
 
+-- the state of a reader with its numbers
 abbrev pub readSoFar : Reader → List ℤ → Reading
 readSoFar reader numbers = record { reader = reader; numbers = numbers }
 
+-- before the first byte
 abbrev pub startReader : Reader
 startReader = record { word = Empty; stage = stage.First }
 
@@ -115,6 +121,7 @@ wordEnded s =
     (record { word = Empty; stage = takenBy (s .reader .stage) (endedOf (s .reader .word)) })
     (storedAt (endedOf (s .reader .word)) (placeFor (s .reader .stage)) (s .numbers))
 
+-- one byte more of a word
 abbrev pub wordGrown : Reading → ℕ → Reading
 wordGrown s byte = readSoFar (record { word = grownBy (s .reader .word) byte; stage = s .reader .stage }) (s .numbers)
 
@@ -133,10 +140,12 @@ failedRead = 63 ∷ []
 
 -- ---- The answer
 
+-- the text ends in the tables: they are complete, or it is unreadable
 abbrev pub completed : (n m read : ℕ) → Counts → Input
 completed n m read (Numbers called) = cond (eqb read called) (input.Ready n m) input.Unreadable
 completed n m read (Faulty verdict) = input.Unreadable
 
+-- what the text is if it ends in this stage
 abbrev pub stageInput : Stage → Input
 stageInput stage.First = input.Unreadable
 stageInput (stage.Second n) = input.Unreadable

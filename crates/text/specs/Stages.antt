@@ -19,10 +19,10 @@ use Rattle.definitions.specs.Answers.{Refusal, none, refuse, refusalOf}
 use Rattle.definitions.specs.Calls.{countsRefusal}
 use Rattle.definitions.specs.Settle.{Whole, noNumber, whole, Numbers, noNumbers, numbers, prepend, wholeOf, wordNumbers, tables, afterCounts, withCounts, inputOf, unreadable, refused}
 use Rattle.definitions.specs.Settle as settle
-use Rattle.text.specs.declared.Stage.{Stage}
-use Rattle.text.specs.declared.Stage.the-variants as stage
-use Rattle.text.specs.declared.Counts.{Counts}
-use Rattle.text.specs.declared.Counts.the-variants as counts
+use Rattle.text.specs.declared.stages.Stage.{Stage}
+use Rattle.text.specs.declared.stages.Stage.the-variants as stage
+use Rattle.text.specs.declared.stages.Counts.{Counts}
+use Rattle.text.specs.declared.stages.Counts.the-variants as counts
 use Rattle.text.specs.Reading.{tableNumbers, calledFor, begun, takenBy, placeFor, storedAt, stageInput, inputFor}
 use Rattle.text.specs.Values.{endedFor}
 
@@ -72,6 +72,7 @@ abbrev pub after : List ℤ → Numbers → Numbers
 after stored noNumbers = noNumbers
 after stored (numbers zs) = numbers (stored ++ zs)
 
+-- n was read: the next word is m
 abbrev pub secondCount : ℕ → List (List ℕ) → settle.Input
 secondCount n [] = unreadable
 secondCount n (word ∷ words) = withCounts (whole (pos n)) (wholeOf word) words
@@ -138,7 +139,8 @@ too-many n m read stored z (numbers zs) e =
     rw (ne-eqb _ _ l) refl
 
 -- one that is called for
-one-stored : (n m read : ℕ) (stored : List ℤ) (z : ℤ) (zs : Numbers) → read < length stored → tables n m (after (take read stored) (prepend (whole z) zs)) ≡ tables n m (after (take (read + 1) (set stored read z)) zs)
+one-stored : (n m read : ℕ) (stored : List ℤ) (z : ℤ) (zs : Numbers) → read < length stored
+    → tables n m (after (take read stored) (prepend (whole z) zs)) ≡ tables n m (after (take (read + 1) (set stored read z)) zs)
 one-stored n m read stored z noNumbers h = refl
 one-stored n m read stored z (numbers zs) h =
     ap (λ (l : List ℤ). tables n m (numbers l))
@@ -170,7 +172,8 @@ second-held n noNumber = tt
 second-held n (whole (pos m)) = rw (no-sign m) (begun-held n m)
 second-held n (whole (negsuc m)) = tt
 
-tables-taken : (n m read : ℕ) (stored : List ℤ) (z : ℤ) (words : List (List ℕ)) → Passed n m → read ≤ called n m → length stored ≡ tableNumbers → Taken (stage.Tables n m read) stored (whole z) words (tables n m (after (take read stored) (prepend (whole z) (wordNumbers words))))
+tables-taken : (n m read : ℕ) (stored : List ℤ) (z : ℤ) (words : List (List ℕ)) → Passed n m → read ≤ called n m → length stored ≡ tableNumbers
+    → Taken (stage.Tables n m read) stored (whole z) words (tables n m (after (take read stored) (prepend (whole z) (wordNumbers words))))
 tables-taken n m read stored z words p h l = go (ltb read (called n m)) refl
   where
     go : (t : Bool) → ltb read (called n m) ≡ t → Taken (stage.Tables n m read) stored (whole z) words (tables n m (after (take read stored) (prepend (whole z) (wordNumbers words))))
@@ -191,7 +194,8 @@ tables-taken n m read stored z words p h l = go (ltb read (called n m)) refl
           long = rw (counts-passed n m p, e) l;
         }
 
-pub word-taken : (s : Stage) (stored : List ℤ) (word : List ℕ) (k : Whole) (words : List (List ℕ)) → Held s → length stored ≡ tableNumbers → wholeOf word ≡ k → Taken s stored k words (continued s stored (word ∷ words))
+pub word-taken : (s : Stage) (stored : List ℤ) (word : List ℕ) (k : Whole) (words : List (List ℕ)) → Held s → length stored ≡ tableNumbers
+    → wholeOf word ≡ k → Taken s stored k words (continued s stored (word ∷ words))
 unfolding wordNumbers
 word-taken stage.First stored word k words h l e =
     record { same = first-count word k (storedAt (endedFor k) tableNumbers stored) words e; held = first-held k; long = rw (no-place k stored) l }

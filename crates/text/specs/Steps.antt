@@ -24,7 +24,8 @@ unfolding afterByte
 step-grown s byte o b = rw (o, b) refl
 
 -- the loop's turn: r and xs are what the step at i left
-pub fed-on : (s : Reading) (bytes : List ℕ) (i : ℕ) (r : Reader) (xs : List ℤ) → i < length bytes → r ≡ afterByte s (getD bytes i 0) .reader → xs ≡ afterByte s (getD bytes i 0) .numbers → fed (readSoFar r xs) (drop (i + 1) bytes) ≡ fed s (drop i bytes)
+pub fed-on : (s : Reading) (bytes : List ℕ) (i : ℕ) (r : Reader) (xs : List ℤ) → i < length bytes → r ≡ afterByte s (getD bytes i 0) .reader
+    → xs ≡ afterByte s (getD bytes i 0) .numbers → fed (readSoFar r xs) (drop (i + 1) bytes) ≡ fed s (drop i bytes)
 unfolding fed
 fed-on s bytes i r xs h e q = rw (e, q, add-one i, drop-cons bytes i 0 h) refl
 

@@ -7,12 +7,12 @@ use lib.ListN.{length, replicate}
 use lib.IntN.{ℤ, pos}
 use Rattle.definitions.specs.Settle.{blank, ended, words, wordsFrom, wholeOf, settleInput}
 use Rattle.definitions.specs.Settle as settle
-use Rattle.text.specs.declared.Word.{Word}
-use Rattle.text.specs.declared.Word.the-variants.{Empty}
-use Rattle.text.specs.declared.Ended.{Ended}
-use Rattle.text.specs.declared.Ended.the-variants.{Nothing, Fault, Number}
-use Rattle.text.specs.declared.Stage.{Stage}
-use Rattle.text.specs.declared.Stage.the-variants as stage
+use Rattle.text.specs.declared.words.Word.{Word}
+use Rattle.text.specs.declared.words.Word.the-variants.{Empty}
+use Rattle.text.specs.declared.words.Ended.{Ended}
+use Rattle.text.specs.declared.words.Ended.the-variants.{Nothing, Fault, Number}
+use Rattle.text.specs.declared.stages.Stage.{Stage}
+use Rattle.text.specs.declared.stages.Stage.the-variants as stage
 use Rattle.text.specs.Words.{endedOf}
 use Rattle.text.specs.Reading.{Reading, readSoFar, startReader, tableNumbers, decided, takenBy, wordEnded, fed, stageInput, inputFor}
 use Rattle.text.specs.Steps.{step-blank, step-grown, decided-stays}
@@ -53,7 +53,9 @@ decided-finished word s stored left o = rw (decided-taken s (endedOf word) o) (d
 
 -- ---- A word has ended
 
-word-onward : (word : List ℕ) (s : Stage) (stored : List ℤ) (left : List (List ℕ)) → Held s → length stored ≡ tableNumbers → let r = wordEnded (inWord (wordFrom Empty word) s stored) in Onward (r .reader .stage) (r .numbers) left (continued s stored (ended word ++ left))
+word-onward : (word : List ℕ) (s : Stage) (stored : List ℤ) (left : List (List ℕ)) → Held s → length stored ≡ tableNumbers
+    → let r = wordEnded (inWord (wordFrom Empty word) s stored) in
+    Onward (r .reader .stage) (r .numbers) left (continued s stored (ended word ++ left))
 unfolding wordEnded wordFrom
 word-onward [] s stored left h l = record { same = refl; held = h; long = l }
 word-onward (byte ∷ word) s stored left h l = rw (word-ends byte word) (word-taken s stored (byte ∷ word) (wholeOf (byte ∷ word)) left h l refl)
@@ -67,7 +69,8 @@ finished-here word s stored h l =
 
 -- ---- The rest of the text
 
-reads-from : (text word : List ℕ) (s : Stage) (stored : List ℤ) → Held s → length stored ≡ tableNumbers → finished (fed (inWord (wordFrom Empty word) s stored) text) ≡ continued s stored (wordsFrom word text)
+reads-from : (text word : List ℕ) (s : Stage) (stored : List ℤ) → Held s → length stored ≡ tableNumbers
+    → finished (fed (inWord (wordFrom Empty word) s stored) text) ≡ continued s stored (wordsFrom word text)
 unfolding fed wordsFrom wordEnded wordFrom
 reads-from [] word s stored h l = finished-here word s stored h l
 reads-from (byte ∷ text) word s stored h l = go (decided s) refl (blank byte) refl (reads-from text)

@@ -8,10 +8,10 @@ use lib.Dec.{ltb, leb, eqb}
 use lib.IntN.{ℤ, pos, negsuc, negℤ}
 use borrow.Author.Tests.{ltb-true, ltb-false, lt-ltb, le-ltb, le-leb, lt-leb}
 use Rattle.definitions.specs.Settle.{Whole, noNumber, whole, digitsFrom, digits, signed, fitting32, wholeOf}
-use Rattle.text.specs.declared.Word.{Word}
-use Rattle.text.specs.declared.Word.the-variants.{Empty, Minus, Digits, NoNumber}
-use Rattle.text.specs.declared.Ended.{Ended}
-use Rattle.text.specs.declared.Ended.the-variants.{Fault, Number}
+use Rattle.text.specs.declared.words.Word.{Word}
+use Rattle.text.specs.declared.words.Word.the-variants.{Empty, Minus, Digits, NoNumber}
+use Rattle.text.specs.declared.words.Ended.{Ended}
+use Rattle.text.specs.declared.words.Ended.the-variants.{Fault, Number}
 use Rattle.text.specs.Words.{greatestSize, leastSize, beyond, capped, grownBy, signedOf, endedOf}
 
 -- ---- A saturated value stays out of range, and any other is exact
@@ -90,7 +90,9 @@ unfolding wordFrom digitsFrom
 digits-ended negative [] v = signed-capped negative v
 digits-ended negative (byte ∷ bytes) v = go (leb 48 byte && leb byte 57) refl (digits-ended negative bytes)
   where
-    go : (t : Bool) → (leb 48 byte && leb byte 57) ≡ t → ((u : ℕ) → endedOf (wordFrom (Digits negative (capped u)) bytes) ≡ endedFor (fitting32 (digitsFrom negative u bytes))) → endedOf (wordFrom (Digits negative (capped v)) (byte ∷ bytes)) ≡ endedFor (fitting32 (digitsFrom negative v (byte ∷ bytes)))
+    go : (t : Bool) → (leb 48 byte && leb byte 57) ≡ t
+        → ((u : ℕ) → endedOf (wordFrom (Digits negative (capped u)) bytes) ≡ endedFor (fitting32 (digitsFrom negative u bytes)))
+        → endedOf (wordFrom (Digits negative (capped v)) (byte ∷ bytes)) ≡ endedFor (fitting32 (digitsFrom negative v (byte ∷ bytes)))
     go true e onward = rw (e, capped-digit v (byte - 48)) (onward (10 * v + (byte - 48)))
     go false e onward = rw (e, no-number-stays bytes) refl
 
