@@ -45,7 +45,7 @@ sizeBlock i =
 abbrev pub positivePriceBlock : ℕ → Block
 positivePriceBlock i = sum (PositivePrice i) (Price i) Shift ∷ []
 
--- that doubled
+-- twice the positive price
 abbrev pub doubleBlock : ℕ → Block
 doubleBlock i = sum (Double i) (PositivePrice i) (PositivePrice i) ∷ []
 
@@ -91,7 +91,7 @@ testAt true y i j = less (Temporary 0) (Key j) (Next i)
 testAt false true i j = less (Temporary 0) (Double j) (Key i)
 testAt false false i j = less (Temporary 0) ZeroCell ZeroCell
 
--- that test for the bids i and j
+-- is bid j before bid i? By the test for these two
 abbrev pub testOrder : (i j : ℕ) → OrderOn Name
 testOrder i j = testAt (ltb j i) (ltb i j) i j
 

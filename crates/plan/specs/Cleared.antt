@@ -32,7 +32,8 @@ use Rattle.plan.specs.Table.{scratchCount, zeroPhase, work, table}
 use Rattle.plan.specs.Whole.{outputs, work-done}
 use Rattle.plan.specs.Proper.{Valid, Proper, work-each}
 use Rattle.plan.specs.Plan.{from, from-scratch, from-end, zero-cell, cellOf, cellOrders, plan, Writable, WritesWell, numbered-writes, names-fit}
-use Rattle.plan.specs.Sealed.{sealedState, sealed-length, sealed-zero, sealed-inputs}
+use Rattle.plan.specs.SealedSheet.{sealed-length, sealed-zero}
+use Rattle.plan.specs.Sealed.{sealedState, sealed-inputs}
 
 -- what the sheet r holds when book B is cleared, by document 01's cells
 pub record HoldsClearing (B : Book) (r : List ℕ) : Type 0 where
@@ -167,7 +168,9 @@ module _ (B : Book) (sound : Sound B) where
     length-kept = cleared-length;
     inputs-kept = λ c h. untouched c (λ w. omega (arith, w .0));
     amount-cells = λ i a. at-cell (cellOf (B .n) (B .m) (at Amounts i 0)) (amountCell (B .n) (B .m) i) _ (omega arith) (result-cell Amounts refl (lit< tt) i 0 a (lit< tt));
-    flow-cells = λ a b x y. at-cell (cellOf (B .n) (B .m) (at Flows (a * B .m + b) 0)) (flowCell (B .n) (B .m) a b) _ (omega arith) (result-cell Flows refl (lit< tt) (a * B .m + b) 0 (digits-lt x y) (lit< tt));
+    flow-cells =
+        λ a b x y. at-cell (cellOf (B .n) (B .m) (at Flows (a * B .m + b) 0)) (flowCell (B .n) (B .m) a b) _ (omega arith)
+        (result-cell Flows refl (lit< tt) (a * B .m + b) 0 (digits-lt x y) (lit< tt));
     price-cells = λ p a. at-cell (cellOf (B .n) (B .m) (at Prices p 0)) (priceCell (B .n) (B .m) p) _ (omega arith) (result-cell Prices refl (lit< tt) p 0 a (lit< tt));
     presence-cells = λ p a. at-cell (cellOf (B .n) (B .m) (at Prices p 1)) (presenceCell (B .n) (B .m) p) _ (omega arith) (result-cell Prices refl (lit< tt) p 1 a (lit< tt));
     scratch-zero = scratch-cell;

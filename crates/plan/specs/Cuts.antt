@@ -57,7 +57,7 @@ module _ (B : Book) (sound : Sound B) where
   abbrev Lines : State → Type 0
   Lines = Holds (cellTables B) (Capacities ∷ ZeroCells ∷ [])
 
-  -- the same, with the demands' sums over all sets
+  -- what a cut reads in all: the lines, and the demands' sums over all sets
   abbrev Summed : State → Type 0
   Summed t = Lines t × ((S : ℕ) → S < 2 ^ B .m → t (Subset S) ≡ subsetSum (B .m) (demand B) S)
 
@@ -85,7 +85,8 @@ module _ (B : Book) (sound : Sound B) where
 
   pub cut-phase : Phase (cellTables B) (Demands ∷ Capacities ∷ ZeroCells ∷ []) Cuts (Subsets ∷ []) (subsetBlocks (B .n) (B .m) Demand ++ loop (2 ^ B .m) (cutBlock (B .n) (B .m)))
   cut-phase =
-      fill-after (cellTables B) (Demands ∷ Capacities ∷ ZeroCells ∷ []) Cuts (Subsets ∷ []) refl refl (subsetBlocks (B .n) (B .m) Demand) (cutBlock (B .n) (B .m)) Summed (subsets-frame (B .n) (B .m) Demand)
+      fill-after (cellTables B) (Demands ∷ Capacities ∷ ZeroCells ∷ []) Cuts (Subsets ∷ []) refl refl (subsetBlocks (B .n) (B .m) Demand)
+      (cutBlock (B .n) (B .m)) Summed (subsets-frame (B .n) (B .m) Demand)
       (λ S. rw (eqb-same S) (writes-loop _ (B .m) _ (λ a _. writes-loop _ (B .m) _ (λ b _. rw (eqb-same S)))))
       (λ s h. (
         holds-keep (cellTables B) (Subsets ∷ []) (Capacities ∷ ZeroCells ∷ []) refl (subsetBlocks (B .n) (B .m) Demand) (subsets-frame (B .n) (B .m) Demand) s

@@ -103,7 +103,8 @@ module _ (T : Tables) where
   step-part {us = us} {x = x} vs p e = record { done = λ s h. holds-part us vs e (run x s) (p .done s h) }
 
   -- a phase is such a step from any families that it reads; those that it writes besides its own are given up
-  pub phase-step : {reads : List Family} {u : Family} {ws : List Family} {l : List (OrderOn Name)} (ts : List Family) → Phase reads u ws l → part-of ts reads ≡ true → Step ts (u ∷ except (u ∷ ws) ts) l
+  pub phase-step : {reads : List Family} {u : Family} {ws : List Family} {l : List (OrderOn Name)} (ts : List Family) → Phase reads u ws l
+      → part-of ts reads ≡ true → Step ts (u ∷ except (u ∷ ws) ts) l
   phase-step {reads} {u} {ws} {l} ts p e = record {
     done = λ s h. holds-add u (except (u ∷ ws) ts) (run l s) (p .fills s (holds-part ts reads e s h))
         (λ t f i j a b.

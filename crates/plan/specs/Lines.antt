@@ -123,7 +123,8 @@ module _ (B : Book) (sound : Sound B) where
         let e : u (Temporary 2) ≡ capacity B a b
         = rw (g .0 Capacities refl a b la lb, g .0 ZeroCells refl 0 0 (lit< tt) (lit< tt)) (omega (arith, sound .capacity-small a b la lb)) in
         let r : HoldsSlacks (run (loop (2 ^ B .m) (restTurn a b)) u) × (run (loop (2 ^ B .m) (restTurn a b)) u (Temporary 2) ≡ least (u (Temporary 2)))
-        = lower HoldsSlacks (Temporary 2) (2 ^ B .m) (restTurn a b) (λ S. cond (leaves S a b) (x S) (capacity B a b)) rest-lowers u (slacks-keep one refl t g) (omega (arith, sound .capacity-small a b la lb)) in
+        = lower HoldsSlacks (Temporary 2) (2 ^ B .m) (restTurn a b) (λ S. cond (leaves S a b) (x S) (capacity B a b)) rest-lowers u
+        (slacks-keep one refl t g) (omega (arith, sound .capacity-small a b la lb)) in
         (r .0, r .1 ∙ ap least e)
 
     -- from a state that holds the slacks, the rest and the flow
@@ -156,7 +157,8 @@ module _ (B : Book) (sound : Sound B) where
         let one : Block = difference (Flow l) (Capacity a b) (Temporary 2) ∷ [] in
         let u : State = run one t in
         let e : u (Flow l) ≡ flowOf B x a b
-        = rw (eqb-same l, g .0 Capacities refl a b la lb, r) (minus-small (capacity B a b) (restOf B x a b) (omega (arith, sound .capacity-small a b la lb)) (omega (arith, flow-and-rest B sound x a b))) in (
+        = rw (eqb-same l, g .0 Capacities refl a b la lb, r)
+        (minus-small (capacity B a b) (restOf B x a b) (omega (arith, sound .capacity-small a b la lb)) (omega (arith, flow-and-rest B sound x a b))) in (
           keep (among (Slacks ∷ [])) (loop (2 ^ B .m) (takeTurn l a b)) (Flow l) u take-frame refl ∙ e,
           take-value u (slacks-keep one refl t g) r e,
         )
@@ -177,7 +179,8 @@ module _ (B : Book) (sound : Sound B) where
       let lb : b < B .m = line-ends (B .m) l h .1 in
       let small : (S : ℕ) → x S ≤ amountLimit = slack-small B sound l in
       let fits : (S : ℕ) → S < 2 ^ B .m → takenOf B x a b S ≤ x S = λ S _. taken-slack B sound l S h in
-      let first : HoldsSlacks x l a b la lb small fits (run (restBlock (B .n) (B .m) a b) t) × (run (restBlock (B .n) (B .m) a b) t (Temporary 2) ≡ restOf B x a b) = rest-value x l a b la lb small fits t (i .0, i .1) in
+      let first : HoldsSlacks x l a b la lb small fits (run (restBlock (B .n) (B .m) a b) t) × (run (restBlock (B .n) (B .m) a b) t (Temporary 2) ≡ restOf B x a b)
+      = rest-value x l a b la lb small fits t (i .0, i .1) in
       let r : (run (takeBlock (B .n) (B .m) l a b) (run (restBlock (B .n) (B .m) a b) t) (Flow l) ≡ flowOf B x a b) × ((S : ℕ) → S < 2 ^ B .m → run (takeBlock (B .n) (B .m) l a b) (run (restBlock (B .n) (B .m) a b) t) (Slack S) ≡ x S - takenOf B x a b S)
       = flow-value x l a b la lb small fits (run (restBlock (B .n) (B .m) a b) t) (first .0) (first .1) in
       let e : run (lineBlock (B .n) (B .m) l) t ≡ run (takeBlock (B .n) (B .m) l a b) (run (restBlock (B .n) (B .m) a b) t) = named-run-append (restBlock (B .n) (B .m) a b) (takeBlock (B .n) (B .m) l a b) t in (

@@ -42,7 +42,7 @@ module _ {A : Type 0} where
   abbrev pub noPart : PartOf A
   noPart = part 0 0 (λ i j. []) (λ i j. refl)
 
-  -- and such a phase
+  -- a phase of nothing
   abbrev pub noPhase : PhaseOf A
   noPhase = phase 0 []
 
@@ -163,7 +163,7 @@ module _ {A : Type 0} where
     is = λ d. getD-append-add a b x d ∙ h .is d;
   }
 
--- the same of the images under a function
+-- the element at a place of a mapped list
 pub has-map : {A B : Type 0} (f : A → B) (l : List A) (x : ℕ) (o : A) → Has l x o → Has (map f l) x (f o)
 has-map f [] x o h = absurd (not-suc-le-zero (h .inside))
 has-map f (a ∷ l) zero o h = record { inside = rw length-map (h .inside); is = λ d. ap f (h .is a) }
@@ -189,7 +189,7 @@ module _ {A : Type 0} where
         go (inl e) ih = rw (e, ← loop-length k (λ q u. h q (omega arith))) (has-right (loop k f) (f k) r o (rw e at b))
         go (inr l) ih = has-left (loop k f) (f k) _ o (ih l)
 
-  -- the same where all blocks are of one length
+  -- where all blocks are of one length, a place is a product and a rest
   pub in-even : (f : ℕ → List A) (s k : ℕ) → ((i : ℕ) → length (f i) ≡ s) → (i r : ℕ) (o : A) → i < k → Has (f i) r o → Has (loop k f) (i * s + r) o
   in-even f s k h i r o a b = rw (← sum-same i s) (in-loop f (λ _. s) k (λ q _. h q) i r o a b)
 
@@ -272,7 +272,7 @@ module _ {A : Type 0} where
   parts-imply P Q g k [] h = tt
   parts-imply P Q g k (t ∷ ts) h = ((λ i j a b. all-imply P Q g (t .block i j) (h .0 i j a b)), parts-imply P Q g k ts (h .1))
 
-  -- the same, and one phase more at the end
+  -- what follows from P holds of all phases, and of one more at the end
   pub each-last : (P Q : A → Type 0) → ((a : A) → P a → Q a) → (ps : List (PhaseOf A)) → EachPhase P ps → (p : PhaseOf A) → EachPart Q (p .rows) (p .parts)
       → EachPhase Q (ps ++ (p ∷ []))
   each-last P Q g [] h p l = (l, tt)

@@ -126,11 +126,14 @@ module _ (B : Book) (sound : Sound B) where
 
   -- ---- the rank of bids with sums x in cells X, in cell i of family u
 
-  rank-frame : (u : Family) (i : ℕ) (X : ℕ → Name) → ((S : ℕ) → writes (touches u i (Temporaries ∷ Subsets ∷ [])) (costTurn (B .m) (at u i 0) S) ≡ true) → writes (touches u i (Temporaries ∷ Subsets ∷ [])) (constant (at u i 0) greatestPositive ∷ []) ≡ true
+  rank-frame : (u : Family) (i : ℕ) (X : ℕ → Name)
+      → ((S : ℕ) → writes (touches u i (Temporaries ∷ Subsets ∷ [])) (costTurn (B .m) (at u i 0) S) ≡ true)
+      → writes (touches u i (Temporaries ∷ Subsets ∷ [])) (constant (at u i 0) greatestPositive ∷ []) ≡ true
       → writes (touches u i (Temporaries ∷ Subsets ∷ [])) (rankBlock (B .n) (B .m) X (at u i 0)) ≡ true
   rank-frame u i X turn start =
       let W : Name → Bool = touches u i (Temporaries ∷ Subsets ∷ []) in
-      writes-append W (subsetBlocks (B .n) (B .m) X) (costBlock (B .n) (B .m) (at u i 0)) (touches-among u i (Subsets ∷ []) (Temporaries ∷ Subsets ∷ []) refl (subsetBlocks (B .n) (B .m) X) (subsets-frame (B .n) (B .m) X))
+      writes-append W (subsetBlocks (B .n) (B .m) X) (costBlock (B .n) (B .m) (at u i 0))
+      (touches-among u i (Subsets ∷ []) (Temporaries ∷ Subsets ∷ []) refl (subsetBlocks (B .n) (B .m) X) (subsets-frame (B .n) (B .m) X))
       (writes-append W (constant (at u i 0) greatestPositive ∷ []) (loop (2 ^ B .m) (costTurn (B .m) (at u i 0))) start (writes-loop W (2 ^ B .m) (costTurn (B .m) (at u i 0)) (λ S _. turn S)))
 
   module _ (u : Family) (i : ℕ) (no-temporary : eqb (number Temporaries) (number u) ≡ false) (no-cut : eqb (number u) (number Cuts) ≡ false) (no-subset : eqb (number u) (number Subsets) ≡ false)

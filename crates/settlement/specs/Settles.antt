@@ -83,14 +83,14 @@ settled-over plan input cells r out after size bytes e h =
     let text : settledText plan input cells ≡ inputText plan input = rw e (printed-text plan input) in
     (size ∙ rw (roomy, text) refl, bytes ∙ rw (roomy, text) refl)
 
--- and these bytes are the first of the slice
+-- the bytes that are written are the first of the slice
 pub settled-first : (plan : Plan) (input : Input) (cells r : ℕ) (out after : List ℕ) → r ≡ settledSize plan input cells (length out)
     → after ≡ settledSlice plan input cells out → cells ≡ cellCount → textRoom ≤ length out → take r after ≡ inputText plan input
 settled-first plan input cells r out after size bytes e h =
     let o = settled-over plan input cells r out after size bytes e h in
     rw (o .0, o .1) (take-at (inputText plan input) (drop (length (inputText plan input)) out) (length (inputText plan input)) refl)
 
--- the same of a text that was read in pieces, however it is cut
+-- a text that was read in pieces, however it is cut: the first bytes of the slice are document 01's for the whole
 pub settles : (plan : Plan) (stored : List ℤ) (pieces : List (List ℕ)) (cells : ℕ) (out : List ℕ)
     → length stored ≡ tableNumbers → cells ≡ cellCount → textRoom ≤ length out
     → let input = piecesRead stored pieces in

@@ -51,7 +51,8 @@ returns c capacities =
     let start = c .before .before .before in
     let first : ℕ = firstResult (start .args .n) (start .args .m) in
     back w64 _ (c .welfare .ok)
-    ∙ amounts-welfare (start .args .n) (start .args .m) (start .args .bids .now) (start .args .sheet .now) (start .pre) (first + start .args .n - first) (omega arith) (c .welfare .result) (c .welfare .ensures) capacities
+    ∙ amounts-welfare (start .args .n) (start .args .m) (start .args .bids .now) (start .args .sheet .now) (start .pre)
+    (first + start .args .n - first) (omega arith) (c .welfare .result) (c .welfare .ensures) capacities
 
 pub welfare-of-spec : {M : Type 1} → statement M
 welfare-of-spec =

@@ -85,7 +85,8 @@ judged c =
     let a = l .before .args in
     let i = l .loop .i in
     let B = table (a .n) (a .m) (a .bids .now) in
-    bid-read-back w32 (a .m) (pool B i) (price B i) (quantity B i) (i + 1) (sfits-of (c .before .before .before .pool .given)) (sfits-of (c .before .before .price .given)) (sfits-of (c .before .quantity .given)) (c .bid-verdict .ensures)
+    bid-read-back w32 (a .m) (pool B i) (price B i) (quantity B i) (i + 1) (sfits-of (c .before .before .before .pool .given))
+    (sfits-of (c .before .before .price .given)) (sfits-of (c .before .quantity .given)) (c .bid-verdict .ensures)
 
 returns : tie.Need-returns Inv-loop μ-loop
 returns c =
@@ -108,7 +109,8 @@ loop-again c =
     let a = l .before .args in (
       omega arith,
       l .loop .inv .1
-          ∙ search-passes (a .n) (bidAt (table (a .n) (a .m) (a .bids .now))) (l .loop .i) (q .before .before .before .before .loop-test .taken) (let-through (judged q) (c .before .is-accepted .ensures) (c .if1 .left)),
+          ∙ search-passes (a .n) (bidAt (table (a .n) (a .m) (a .bids .now))) (l .loop .i) (q .before .before .before .before .loop-test .taken)
+          (let-through (judged q) (c .before .is-accepted .ensures) (c .if1 .left)),
     )
 
 returns-2 : tie.Need-returns-2 Inv-loop μ-loop

@@ -71,7 +71,8 @@ lengths-passed c =
     let s = c .before .before .before .before .before .before in
     let-through {asked = lengthsOf s} (c .before .before .judge-lengths .ensures) (c .before .is-accepted2 .ensures) (c .if2 .left)
 
-lengths : (c : tie.Else2) → let s = c .before .before .before .before .before .before in Lengths (s .args .n) (s .args .m) (length (s .args .bids .now)) (length (s .args .capacities .now)) (s .args .cells)
+lengths : (c : tie.Else2) → let s = c .before .before .before .before .before .before in
+    Lengths (s .args .n) (s .args .m) (length (s .args .bids .now)) (length (s .args .capacities .now)) (s .args .cells)
 lengths c = measured _ _ _ _ _ (lengths-passed c)
 
 -- so what is left is what the whole answers
@@ -98,7 +99,8 @@ returns-3 c =
     let j = k .before in
     let a = j .before .before .before .before .before .before .before .args in
     c .first-of .ensures
-    ∙ ap₂ first (j .judge-bids .ensures ∙ bids-alone (a .n) (a .m) (a .bids .now) (a .capacities .now)) (k .judge-capacities .ensures ∙ capacities-alone (a .n) (a .m) (a .bids .now) (a .capacities .now))
+    ∙ ap₂ first (j .judge-bids .ensures ∙ bids-alone (a .n) (a .m) (a .bids .now) (a .capacities .now))
+    (k .judge-capacities .ensures ∙ capacities-alone (a .n) (a .m) (a .bids .now) (a .capacities .now))
     ∙ left (j .before)
 
 pub judge-book-spec : {M : Type 1} → statement M

@@ -36,7 +36,8 @@ returns c =
     let l = c .before .before .before .before .loop in
     let a = c .before .before .before .before .before .before .before .args in
     let x = refusalOf (c .enum-told .given .0 .0) in
-    finish (a .bytes .now) (a .sheet .now) (l .sheet) (l .at) (l .count) (l .inv) x (turn-refused (a .bytes .now) (l .at) (c .before .before .before .loop-test .taken) x (sym (ap orderAnswer (c .enum-told .given .1)) ∙ c .before .before .read-order .ensures))
+    finish (a .bytes .now) (a .sheet .now) (l .sheet) (l .at) (l .count) (l .inv) x
+    (turn-refused (a .bytes .now) (l .at) (c .before .before .before .loop-test .taken) x (sym (ap orderAnswer (c .enum-told .given .1)) ∙ c .before .before .read-order .ensures))
 
 enum-known-order : tie.Need-enum-known-order Inv-loop μ-loop
 enum-known-order c = search needs
@@ -62,7 +63,9 @@ loop-again : tie.Need-loop-again Inv-loop μ-loop
 loop-again c =
     let l = c .before .before .before .before .before .before .before .before .before .loop in
     let a = c .before .before .before .before .before .before .before .before .before .before .before .before .args in
-    onward (a .bytes .now) (a .sheet .now) (l .sheet) (l .at) (l .count) (l .inv) _ _ (c .before .before .step .last .0) (c .before .before .before .before .before .before .before .before .loop-test .taken) (answered (c .before .before .before .before)) (c .before .before .step .ensures ∙ stepped-is (l .sheet) _ (l .inv .is-sheet) (turn-read _ _ _ _ (answered (c .before .before .before .before)) .wellFormed))
+    onward (a .bytes .now) (a .sheet .now) (l .sheet) (l .at) (l .count) (l .inv) _ _ (c .before .before .step .last .0)
+    (c .before .before .before .before .before .before .before .before .loop-test .taken) (answered (c .before .before .before .before))
+    (c .before .before .step .ensures ∙ stepped-is (l .sheet) _ (l .inv .is-sheet) (turn-read _ _ _ _ (answered (c .before .before .before .before)) .wellFormed))
 
 same-length-2 : tie.Need-same-length-2 Inv-loop μ-loop
 same-length-2 c = c .before .loop .inv .is-sheet .cells ∙ sym (c .before .before .before .before .pre .cells)
