@@ -54,7 +54,9 @@ cleared B amounts flows prices total h a f p w = record {
   exists = best-exists B h;
   accepts = λ c b. listed-same (B .n) (c .accepted) (λ i. acceptedAmount B i) (closed-accepted B h c b) ∙ a;
   ships = λ c b q. f c q (closed-accepted B h c b);
-  priced = λ c b. listed-same (B .m) (poolPrice B (c .accepted)) (poolPrice B (λ i. acceptedAmount B i)) (λ k l. pool-price-same B (c .accepted) (λ i. acceptedAmount B i) k (closed-accepted B h c b)) ∙ p;
+  priced =
+      λ c b. listed-same (B .m) (poolPrice B (c .accepted)) (poolPrice B (λ i. acceptedAmount B i)) (λ k l. pool-price-same B (c .accepted) (λ i. acceptedAmount B i) k (closed-accepted B h c b))
+      ∙ p;
   worth = λ c b. welfare-same B (c .accepted) (λ i. acceptedAmount B i) (closed-accepted B h c b) ∙ w;
 }
 

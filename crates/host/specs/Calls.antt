@@ -58,7 +58,9 @@ bytes-pass P n m at room out counts stated within roomy = rw (counts, eq-eqb out
 module _ (P : Plan) (n m at : ℕ) (bytes out : List ℕ) where
   pub bytes-length : bytesRefusal P n m at (length bytes) (length out) ≡ none → length out ≡ 24
   unfolding bytesRefusal
-  bytes-length e = stated-length (length out) 24 (first-left (lengthRefusal (eqb (length out) 24)) (first (positionRefusal (P n m) at) (roomRefusal (length bytes))) (first-right (countsRefusal n m) _ e))
+  bytes-length e =
+      stated-length (length out) 24
+      (first-left (lengthRefusal (eqb (length out) 24)) (first (positionRefusal (P n m) at) (roomRefusal (length bytes))) (first-right (countsRefusal n m) _ e))
 
   pub bytes-writing : bytesRefusal P n m at (length bytes) (length out) ≡ none → writeRefusal P n m at (length bytes) ≡ none
   unfolding bytesRefusal writeRefusal askRefusal

@@ -82,7 +82,7 @@ first-from-each i (suc k) f e (suc j) l =
 pub all-none : (k : ℕ) (f : ℕ → Refusal) → firstFrom 0 k f ≡ none → (j : ℕ) → j < k → f j ≡ none
 all-none k f e j l = rw (zero-add j) at (first-from-each 0 k f e j l)
 
--- and back
+-- none at each of k: no refusal among them
 pub each-from : (i k : ℕ) (f : ℕ → Refusal) → ((j : ℕ) → j < k → f (i + j) ≡ none) → firstFrom i k f ≡ none
 unfolding firstFrom
 each-from i zero f h = refl

@@ -17,16 +17,19 @@ use Rattle.listing.specs.Put.{Put, nothing, then-put, same-bytes, room-s
 abbrev pub lastField : ℤ → List ℕ
 lastField z = space ++ (decimalZ z ++ newline)
 
--- the lines of bid i, of the flow from pool a to pool b, of all flows from pool a, of pool p's price; all counted from 0
+-- the line of bid i, counted from 0
 abbrev pub bidAt : List ℤ → ℕ → List ℕ
 bidAt results i = bidLine (i + 1) (resultAt results i)
 
+-- the line of the flow from pool a to pool b, nothing if it is 0
 abbrev pub flowAt : (n m a : ℕ) → List ℤ → ℕ → List ℕ
 flowAt n m a results b = flowLine (a + 1) (b + 1) (resultAt results (n + (a * m + b)))
 
+-- the lines of all flows from pool a
 unfoldable pub rowLines : (n m a : ℕ) → List ℤ → List ℕ
 rowLines n m a results = joinTo m (flowAt n m a results)
 
+-- the line of pool p's price
 abbrev pub priceAt : (n m : ℕ) → List ℤ → ℕ → List ℕ
 priceAt n m results p = priceLine (p + 1) (resultAt results (n + m * m + poolResults * p)) (resultAt results (n + m * m + poolResults * p + 1))
 

@@ -22,7 +22,7 @@ nothing d at = record { behind = sym (add-zero at); stored = refl }
 pub byte : (d : List ℕ) (at x : ℕ) → Put d at (x ∷ []) (set d at x) (at + 1)
 byte d at x = record { behind = refl; stored = refl }
 
--- the same bytes, written otherwise
+-- bytes that are equal to those of a piece
 pub same-bytes : {d e : List ℕ} {at p : ℕ} {xs ys : List ℕ} → xs ≡ ys → Put d at xs e p → Put d at ys e p
 same-bytes {d} {e} {at} {p} q a = subst (λ (l : List ℕ). Put d at l e p) q a
 
@@ -51,7 +51,7 @@ room-first xs ys at n h = omega (arith, length-append xs ys)
 pub room-second : {d e : List ℕ} {at p : ℕ} {xs : List ℕ} (ys : List ℕ) → Put d at xs e p → at + length (xs ++ ys) ≤ length d → p + length ys ≤ length e
 room-second {xs = xs} ys a h = omega (arith, length-append xs ys, length-kept a, a .behind)
 
--- the same at the start of a slice
+-- a text that is no longer than the slice has room at its start
 pub room-start : (xs : List ℕ) (n : ℕ) → length xs ≤ n → 0 + length xs ≤ n
 room-start xs n h = omega arith
 

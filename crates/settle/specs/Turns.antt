@@ -33,9 +33,11 @@ pub record Turned : Type 0 where
   pub turn : Turn
   pub numbers : List ℤ
 
+-- the answer is there
 abbrev pub textOver : Left → Turned
 textOver left = record { turn = Over (left .input); numbers = left .numbers }
 
+-- the next turn goes on from here
 abbrev pub textOnward : Reading → Turned
 textOnward s = record { turn = More (s .reader); numbers = s .numbers }
 
@@ -73,6 +75,7 @@ endBefore (negsuc k) rest = false
 endBefore (pos zero) rest = true
 endBefore (pos (suc k)) rest = rest
 
+-- whether one of so many reads has found the end of the input
 unfoldable pub endFound : (turns : ℕ) → (ℕ → ReadAnswer) → Bool
 endFound zero reads = false
 endFound (suc turns) reads = endBefore (reads 0 .got) (endFound turns (laterReads reads))

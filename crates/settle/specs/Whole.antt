@@ -27,6 +27,7 @@ pub record Led (before : List ℤ) (s : Reading) (turns : ℕ) (rest : ℕ → R
   pub reads : ℕ → ReadAnswer
   pub same : fed (readSoFar startReader before) (textOf readLimit reads) ≡ fed s (textOf turns rest)
 
+-- some reads from the start have led to this reader and these numbers
 abbrev pub SoFar : (before : List ℤ) (reader : Reader) (numbers : List ℤ) (turns : ℕ) → Type 0
 SoFar before reader numbers turns = (rest : ℕ → ReadAnswer) → Led before (readSoFar reader numbers) turns rest
 

@@ -10,6 +10,7 @@ use Rattle.definitions.specs.Calls.{countsRefusal}
 use Rattle.definitions.specs.Plan.{Plan, positionRefusal, roomRefusal, askRefusal, writeRefusal, over, bytesWritten, nothingWritten, writtenCounts, writeCounts, writeSlice}
 use Rattle.laws.specs.Refusal.{test-failed, first-left, first-right, unless-refused}
 
+-- what an accepted call keeps within
 pub record Within (P : Plan) (n m at bytes : ℕ) : Type 0 where
   pub counts : countsRefusal n m ≡ none
   pub position : at ≤ length (P n m)

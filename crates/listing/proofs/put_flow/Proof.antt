@@ -43,7 +43,8 @@ slice-aggregate-put-field-2 : tie.Need-slice-aggregate-put-field-2
 slice-aggregate-put-field-2 c = search needs
 
 -- room behind the first pool
-second-room : (c : tie.After-put-field) → let a = c .before .before .before .before .before .args in c .put-field .result + length ((space ++ decimal (a .to)) ++ lastField (a .flow)) ≤ length (c .put-field .last .0)
+second-room : (c : tie.After-put-field) → let a = c .before .before .before .before .before .args in
+    c .put-field .result + length ((space ++ decimal (a .to)) ++ lastField (a .flow)) ≤ length (c .put-field .last .0)
 second-room c =
     let a = c .before .before .before .before .before .args in
     room-second ((space ++ decimal (a .to)) ++ lastField (a .flow)) (c .put-field .ensures) (room (c .before .before .before))
@@ -59,7 +60,8 @@ cast-put-last c = widened-fits (c .before .before .before .before .before .befor
 put-last-requires : tie.Need-put-last-requires
 put-last-requires c κs =
     let s = c .before .before .before .before .before .before .before .before .before .before .before .before .before in
-    same-room _ _ (sym (last s)) (room-second (lastField (s .args .flow)) (c .before .before .before .put-field2 .ensures) (second-room (c .before .before .before .before .before .before .before .before)))
+    same-room _ _ (sym (last s))
+    (room-second (lastField (s .args .flow)) (c .before .before .before .put-field2 .ensures) (second-room (c .before .before .before .before .before .before .before .before)))
 
 same-length : tie.Need-same-length
 same-length c = search needs

@@ -18,15 +18,23 @@ last : (c : tie.Start) → welfareLine (toZ w64 (ofZ w64 (c .args .welfare))) �
 last c = ap welfareLine (toZ-ofZ (c .fits .welfare))
 
 -- room for all, and behind each part for those after it
-room : (c : tie.Start) → let a = c .args in 0 + length (bidLines (a .n) (a .results .now) ++ (flowLines (a .n) (a .m) (a .results .now) ++ (priceLines (a .n) (a .m) (a .results .now) ++ welfareLine (a .welfare)))) ≤ length (a .out .now)
+room : (c : tie.Start) → let a = c .args in
+    0 + length (bidLines (a .n) (a .results .now) ++ (flowLines (a .n) (a .m) (a .results .now) ++ (priceLines (a .n) (a .m) (a .results .now) ++ welfareLine (a .welfare)))) ≤ length (a .out .now)
 unfolding listing
 room c = let a = c .args in room-start (listing (a .n) (a .m) (a .results .now) (a .welfare)) _ (c .pre .1)
 
-room-2 : (c : tie.After-put-bids) → let a = c .before .before .before .args in c .put-bids .result + length (flowLines (a .n) (a .m) (a .results .now) ++ (priceLines (a .n) (a .m) (a .results .now) ++ welfareLine (a .welfare))) ≤ length (c .put-bids .last .0)
-room-2 c = let a = c .before .before .before .args in room-second (flowLines (a .n) (a .m) (a .results .now) ++ (priceLines (a .n) (a .m) (a .results .now) ++ welfareLine (a .welfare))) (c .put-bids .ensures) (room (c .before .before .before))
+room-2 : (c : tie.After-put-bids) → let a = c .before .before .before .args in
+    c .put-bids .result + length (flowLines (a .n) (a .m) (a .results .now) ++ (priceLines (a .n) (a .m) (a .results .now) ++ welfareLine (a .welfare))) ≤ length (c .put-bids .last .0)
+room-2 c =
+    let a = c .before .before .before .args in
+    room-second (flowLines (a .n) (a .m) (a .results .now) ++ (priceLines (a .n) (a .m) (a .results .now) ++ welfareLine (a .welfare)))
+    (c .put-bids .ensures) (room (c .before .before .before))
 
-room-3 : (c : tie.After-put-flows) → let a = c .before .before .before .before .before .before .before .args in c .put-flows .result + length (priceLines (a .n) (a .m) (a .results .now) ++ welfareLine (a .welfare)) ≤ length (c .put-flows .last .0)
-room-3 c = let a = c .before .before .before .before .before .before .before .args in room-second (priceLines (a .n) (a .m) (a .results .now) ++ welfareLine (a .welfare)) (c .put-flows .ensures) (room-2 (c .before .before .before .before))
+room-3 : (c : tie.After-put-flows) → let a = c .before .before .before .before .before .before .before .args in
+    c .put-flows .result + length (priceLines (a .n) (a .m) (a .results .now) ++ welfareLine (a .welfare)) ≤ length (c .put-flows .last .0)
+room-3 c =
+    let a = c .before .before .before .before .before .before .before .args in
+    room-second (priceLines (a .n) (a .m) (a .results .now) ++ welfareLine (a .welfare)) (c .put-flows .ensures) (room-2 (c .before .before .before .before))
 
 put-bids-requires : tie.Need-put-bids-requires
 put-bids-requires c κs =

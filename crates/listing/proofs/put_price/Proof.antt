@@ -25,14 +25,16 @@ put-field-requires c κs =
     room-first (priceWord ++ (space ++ decimal (s .args .pool))) (space ++ (priceText (s .args .price) (s .args .presence) ++ newline)) _ _ (s .pre)
 
 -- room behind the pool
-second-room : (c : tie.After-put-field) → let a = c .before .before .before .before .args in c .put-field .result + length (space ++ (priceText (a .price) (a .presence) ++ newline)) ≤ length (c .put-field .last .0)
+second-room : (c : tie.After-put-field) → let a = c .before .before .before .before .args in
+    c .put-field .result + length (space ++ (priceText (a .price) (a .presence) ++ newline)) ≤ length (c .put-field .last .0)
 unfolding priceLine
 second-room c =
     let s = c .before .before .before .before in
     room-second (space ++ (priceText (s .args .price) (s .args .presence) ++ newline)) (c .put-field .ensures) (s .pre)
 
 -- what stands there, by the test on the presence
-present : (c : tie.Then1) → let a = c .before .before .before .before .before .before .before .args in lastField (toZ w64 (ofZ w64 (toZ w32 (ofZ w32 (a .price))))) ≡ space ++ (priceText (a .price) (a .presence) ++ newline)
+present : (c : tie.Then1) → let a = c .before .before .before .before .before .before .before .args in
+    lastField (toZ w64 (ofZ w64 (toZ w32 (ofZ w32 (a .price))))) ≡ space ++ (priceText (a .price) (a .presence) ++ newline)
 present c =
     let s = c .before .before .before .before .before .before .before in
     ap lastField (widened (s .fits .price)) ∙ simp (right (pos 0) (s .fits .presence) (c .if1 .taken))

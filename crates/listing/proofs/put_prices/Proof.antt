@@ -77,7 +77,8 @@ unfolding priceLines
 put-price-requires c κs =
     let s = c .before .before .before .before .before .before in
     let l = c .before .before .before .before .loop in
-    same-room _ _ (sym (line (c .before))) (line-room (l .p) (s .args .m) (priceAt (s .args .n) (s .args .m) (s .args .results .now)) (s .pre .1) (l .inv .1) (c .before .before .before .loop-test .taken))
+    same-room _ _ (sym (line (c .before)))
+    (line-room (l .p) (s .args .m) (priceAt (s .args .n) (s .args .m) (s .args .results .now)) (s .pre .1) (l .inv .1) (c .before .before .before .loop-test .taken))
 
 add-p : tie.Need-add-p Inv-loop μ-loop
 add-p c = omega arith

@@ -67,7 +67,8 @@ unfolding rowLines
 put-flow-requires c κs =
     let s = c .before .before .before .before .before in
     let l = c .before .before .before .loop in
-    same-room _ _ (sym (line (c .before))) (line-room (l .b) (s .args .m) (flowAt (s .args .n) (s .args .m) (s .args .a) (s .args .results .now)) (s .pre .2) (l .inv .1) (c .before .before .loop-test .taken))
+    same-room _ _ (sym (line (c .before)))
+    (line-room (l .b) (s .args .m) (flowAt (s .args .n) (s .args .m) (s .args .a) (s .args .results .now)) (s .pre .2) (l .inv .1) (c .before .before .loop-test .taken))
 
 add-b : tie.Need-add-b Inv-loop μ-loop
 add-b c = omega arith

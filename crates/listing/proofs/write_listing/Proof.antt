@@ -37,7 +37,8 @@ fitting c =
     omega (arith, listing-fits (a .n) (a .m) (a .results .now) (a .welfare) (facts c .bids) (facts c .pools), facts c .roomy)
 
 put-listing-requires : tie.Need-put-listing-requires
-put-listing-requires c κs = (facts (c .before) .count, subst (λ (l : List ℕ). length l ≤ length (c .before .before .before .before .args .out .now)) (sym (text (c .before .before .before .before))) (fitting (c .before)))
+put-listing-requires c κs =
+    (facts (c .before) .count, subst (λ (l : List ℕ). length l ≤ length (c .before .before .before .before .args .out .now)) (sym (text (c .before .before .before .before))) (fitting (c .before)))
 
 same-length : tie.Need-same-length
 same-length c = search needs
@@ -54,7 +55,8 @@ returns-2 : tie.Need-returns-2
 unfolding listingSize listingSlice
 returns-2 c =
     let a = c .before .before .before .args in
-    nothing-written (listable (a .n) (a .m) (length (a .results .now)) (length (a .out .now))) (listing (a .n) (a .m) (a .results .now) (a .welfare)) (a .out .now) (test (c .before) false (c .if1 .left))
+    nothing-written (listable (a .n) (a .m) (length (a .results .now)) (length (a .out .now))) (listing (a .n) (a .m) (a .results .now) (a .welfare))
+    (a .out .now) (test (c .before) false (c .if1 .left))
 
 pub write-listing-spec : {M : Type 1} → statement M
 write-listing-spec =

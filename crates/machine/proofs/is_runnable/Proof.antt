@@ -9,7 +9,8 @@ use Rattle.machine.specs.Step.{runs, runnable}
 use Rattle.machine.proofs.is_runnable.Statement.{statement}
 use Rattle.machine.proofs.is_runnable.Tie as tie
 
-told : (c : tie.Else1) (was : Order) → c .before .before .args .order ≡ was → runs (c .before .before .args .sheet .now) was ≡ runnable (c .before .before .args .sheet .now) (c .before .before .args .order)
+told : (c : tie.Else1) (was : Order) → c .before .before .args .order ≡ was
+    → runs (c .before .before .args .sheet .now) was ≡ runnable (c .before .before .args .sheet .now) (c .before .before .args .order)
 told c was e =
     let s = c .before .before .args .sheet .now in
     let q : runs s was ≡ runnable s was = rw (eq-eqb (length s) cellCount (c .if1 .left)) refl in

@@ -16,7 +16,8 @@ reading-requires c κs = search needs
 reading-requires-2 : tie.Need-reading-requires-2
 reading-requires-2 c κs = search needs
 
-test : (c : tie.After-reading2) → ltZ (toZ w32 (ofZ w32 (c .before .reading .result))) (toZ w32 (ofZ w32 (c .reading2 .result))) ≡ ltZ (reading (c .before .before .args .x)) (reading (c .before .before .args .y))
+test : (c : tie.After-reading2)
+    → ltZ (toZ w32 (ofZ w32 (c .before .reading .result))) (toZ w32 (ofZ w32 (c .reading2 .result))) ≡ ltZ (reading (c .before .before .args .x)) (reading (c .before .before .args .y))
 test c =
     ap₂ ltZ
     (back w32 (c .before .reading .result) (c .before .reading .ok) ∙ c .before .reading .ensures ∙ read-residue _ (c .before .before .pre .0))
