@@ -5,18 +5,6 @@ use borrow.Author.Needs.{needs}
 use Rattle.codec.proofs.read_target.Statement.{statement}
 use Rattle.codec.proofs.read_target.Tie as tie
 
-read-cell-requires : tie.Need-read-cell-requires
-read-cell-requires c κs = search needs
-
-enum-known-verdict : tie.Need-enum-known-verdict
-enum-known-verdict c = search needs
-
-enum-known-d : tie.Need-enum-known-d
-enum-known-d c = search needs
-
-read-rest-requires : tie.Need-read-rest-requires
-read-rest-requires c κs = search needs
-
 returns : tie.Need-returns
 unfolding targetAt
 returns c =
@@ -34,9 +22,9 @@ pub read-target-spec : {M : Type 1} → statement M
 read-target-spec =
     tie.close
     (tie.spec
-    read-cell-requires
-    enum-known-verdict
-    enum-known-d
-    read-rest-requires
+    (λ c κs. search needs)
+    (λ c. search needs)
+    (λ c. search needs)
+    (λ c κs. search needs)
     returns
     returns-2)

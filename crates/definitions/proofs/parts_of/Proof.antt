@@ -5,27 +5,6 @@ use Rattle.definitions.specs.Answers.{kindOf, partsOf}
 use Rattle.definitions.proofs.parts_of.Statement.{statement}
 use Rattle.definitions.proofs.parts_of.Tie as tie
 
-kind-requires : tie.Need-kind-requires
-kind-requires c κs = search needs
-
-enum-known-order : tie.Need-enum-known-order
-enum-known-order c = search needs
-
-enum-known-order-2 : tie.Need-enum-known-order-2
-enum-known-order-2 c = search needs
-
-enum-known-order-3 : tie.Need-enum-known-order-3
-enum-known-order-3 c = search needs
-
-enum-known-order-4 : tie.Need-enum-known-order-4
-enum-known-order-4 c = search needs
-
-enum-known-order-5 : tie.Need-enum-known-order-5
-enum-known-order-5 c = search needs
-
-enum-known-order-6 : tie.Need-enum-known-order-6
-enum-known-order-6 c = search needs
-
 returns : tie.Need-returns
 returns c =
     let e = c .before .order .given .1 in
@@ -60,13 +39,13 @@ pub parts-of-spec : {M : Type 1} → statement M
 parts-of-spec =
     tie.close
     (tie.spec
-    kind-requires
-    enum-known-order
-    enum-known-order-2
-    enum-known-order-3
-    enum-known-order-4
-    enum-known-order-5
-    enum-known-order-6
+    (λ c κs. search needs)
+    (λ c. search needs)
+    (λ c. search needs)
+    (λ c. search needs)
+    (λ c. search needs)
+    (λ c. search needs)
+    (λ c. search needs)
     returns
     returns-2
     returns-3

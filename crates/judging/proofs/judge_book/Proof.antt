@@ -25,12 +25,6 @@ capacities-alone : (n m : ℕ) (bids capacities : List ℤ) → capacitiesRefusa
 unfolding capacitiesRefusal rowRefusal
 capacities-alone n m bids capacities = refl
 
-judge-counts-requires : tie.Need-judge-counts-requires
-judge-counts-requires c κs = search needs
-
-is-accepted-requires : tie.Need-is-accepted-requires
-is-accepted-requires c κs = search needs
-
 abbrev bookOf : tie.Start → Book
 bookOf s = book (s .args .n) (s .args .m) (s .args .bids .now) (s .args .capacities .now)
 
@@ -54,9 +48,6 @@ counts c = counted _ _ (counts-passed c)
 
 judge-lengths-requires : tie.Need-judge-lengths-requires
 judge-lengths-requires c κs = (counts c .bids, counts c .pools .most)
-
-is-accepted-requires-2 : tie.Need-is-accepted-requires-2
-is-accepted-requires-2 c κs = search needs
 
 returns-2 : tie.Need-returns-2
 unfolding sealRefusal
@@ -90,9 +81,6 @@ judge-bids-requires c κs = (counts (c .before .before .before) .pools .most, le
 judge-capacities-requires : tie.Need-judge-capacities-requires
 judge-capacities-requires c κs = (counts (c .before .before .before .before) .pools .most, lengths (c .before) .capacity-table)
 
-first-of-requires : tie.Need-first-of-requires
-first-of-requires c κs = search needs
-
 returns-3 : tie.Need-returns-3
 returns-3 c =
     let k = c .before in
@@ -107,13 +95,13 @@ pub judge-book-spec : {M : Type 1} → statement M
 judge-book-spec =
     tie.close
     (tie.spec
-    judge-counts-requires
-    is-accepted-requires
+    (λ c κs. search needs)
+    (λ c κs. search needs)
     returns
     judge-lengths-requires
-    is-accepted-requires-2
+    (λ c κs. search needs)
     returns-2
     judge-bids-requires
     judge-capacities-requires
-    first-of-requires
+    (λ c κs. search needs)
     returns-3)

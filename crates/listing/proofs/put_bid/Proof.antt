@@ -15,9 +15,6 @@ use Rattle.listing.proofs.put_bid.Tie as tie
 last : (c : tie.Start) → lastField (toZ w64 (ofZ w64 (toZ w32 (ofZ w32 (c .args .accepted))))) ≡ lastField (c .args .accepted)
 last c = ap lastField (widened (c .fits .accepted))
 
-slice-aggregate-put-field : tie.Need-slice-aggregate-put-field
-slice-aggregate-put-field c = search needs
-
 put-field-requires : tie.Need-put-field-requires
 unfolding bidLine
 put-field-requires c κs =
@@ -33,9 +30,6 @@ put-last-requires c κs =
     let s = c .before .before .before .before .before .before .before in
     same-room _ _ (sym (last s)) (room-second (lastField (s .args .accepted)) (c .before .before .before .put-field .ensures) (s .pre))
 
-same-length : tie.Need-same-length
-same-length c = search needs
-
 returns : tie.Need-returns
 unfolding bidLine
 returns c =
@@ -46,9 +40,9 @@ pub put-bid-spec : {M : Type 1} → statement M
 put-bid-spec =
     tie.close
     (tie.spec
-    slice-aggregate-put-field
+    (λ c. search needs)
     put-field-requires
     cast-put-last
     put-last-requires
-    same-length
+    (λ c. search needs)
     returns)

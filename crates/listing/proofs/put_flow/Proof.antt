@@ -31,16 +31,10 @@ no-line c = simp (right (pos 0) (c .before .before .fits .flow) (c .if1 .left))
 room : (c : tie.Then1) → let a = c .before .before .args in a .at + length ((lineWord ++ (space ++ decimal (a .from))) ++ ((space ++ decimal (a .to)) ++ lastField (a .flow))) ≤ length (a .out .now)
 room c = same-room _ _ (line c) (c .before .before .pre)
 
-slice-aggregate-put-field : tie.Need-slice-aggregate-put-field
-slice-aggregate-put-field c = search needs
-
 put-field-requires : tie.Need-put-field-requires
 put-field-requires c κs =
     let a = c .before .before .before .before .args in
     room-first (lineWord ++ (space ++ decimal (a .from))) ((space ++ decimal (a .to)) ++ lastField (a .flow)) _ _ (room (c .before .before))
-
-slice-aggregate-put-field-2 : tie.Need-slice-aggregate-put-field-2
-slice-aggregate-put-field-2 c = search needs
 
 -- room behind the first pool
 second-room : (c : tie.After-put-field) → let a = c .before .before .before .before .before .args in
@@ -63,9 +57,6 @@ put-last-requires c κs =
     same-room _ _ (sym (last s))
     (room-second (lastField (s .args .flow)) (c .before .before .before .put-field2 .ensures) (second-room (c .before .before .before .before .before .before .before .before)))
 
-same-length : tie.Need-same-length
-same-length c = search needs
-
 returns : tie.Need-returns
 returns c =
     same-bytes (sym (line (c .before .before .before .before .before .before .before .before .before .before .before .before .before .before)))
@@ -80,12 +71,12 @@ pub put-flow-spec : {M : Type 1} → statement M
 put-flow-spec =
     tie.close
     (tie.spec
-    slice-aggregate-put-field
+    (λ c. search needs)
     put-field-requires
-    slice-aggregate-put-field-2
+    (λ c. search needs)
     put-field-requires-2
     cast-put-last
     put-last-requires
-    same-length
+    (λ c. search needs)
     returns
     returns-2)

@@ -15,9 +15,6 @@ use borrow.Author.Needs.{needs}
 use Rattle.listing.proofs.put_price.Statement.{statement}
 use Rattle.listing.proofs.put_price.Tie as tie
 
-slice-aggregate-put-field : tie.Need-slice-aggregate-put-field
-slice-aggregate-put-field c = search needs
-
 put-field-requires : tie.Need-put-field-requires
 unfolding priceLine
 put-field-requires c κs =
@@ -48,23 +45,14 @@ cast-put-last c = widened-fits (c .before .before .before .before .before .befor
 put-last-requires : tie.Need-put-last-requires
 put-last-requires c κs = same-room _ _ (sym (present (c .before))) (second-room (c .before .before .before .before))
 
-same-length : tie.Need-same-length
-same-length c = search needs
-
 returns : tie.Need-returns
 unfolding priceLine
 returns c =
     then-put (c .before .before .before .before .before .before .before .put-field .ensures)
     (same-bytes (present (c .before .before .before .before)) (c .before .before .put-last .ensures))
 
-slice-aggregate-put-word : tie.Need-slice-aggregate-put-word
-slice-aggregate-put-word c = search needs
-
 put-word-requires : tie.Need-put-word-requires
 put-word-requires c κs = same-room _ _ (sym (missing (c .before .before))) (second-room (c .before .before .before .before .before))
-
-same-length-2 : tie.Need-same-length-2
-same-length-2 c = search needs
 
 returns-2 : tie.Need-returns-2
 unfolding priceLine
@@ -76,13 +64,13 @@ pub put-price-spec : {M : Type 1} → statement M
 put-price-spec =
     tie.close
     (tie.spec
-    slice-aggregate-put-field
+    (λ c. search needs)
     put-field-requires
     cast-put-last
     put-last-requires
-    same-length
+    (λ c. search needs)
     returns
-    slice-aggregate-put-word
+    (λ c. search needs)
     put-word-requires
-    same-length-2
+    (λ c. search needs)
     returns-2)

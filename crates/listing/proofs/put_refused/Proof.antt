@@ -12,9 +12,6 @@ room : (c : tie.Start) → 0 + length ((refusedWord ++ (space ++ decimal (c .arg
 unfolding refusedText
 room c = room-start (refusedText (c .args .number) (c .args .place)) _ (c .pre)
 
-slice-aggregate-put-field : tie.Need-slice-aggregate-put-field
-slice-aggregate-put-field c = search needs
-
 put-field-requires : tie.Need-put-field-requires
 put-field-requires c κs =
     let s = c .before .before .before in
@@ -26,21 +23,12 @@ second-room c =
     let s = c .before .before .before .before in
     room-second ((space ++ decimal (s .args .place)) ++ newline) (c .put-field .ensures) (room s)
 
-slice-aggregate-put-field-2 : tie.Need-slice-aggregate-put-field-2
-slice-aggregate-put-field-2 c = search needs
-
 put-field-requires-2 : tie.Need-put-field-requires-2
 put-field-requires-2 c κs =
     room-first (space ++ decimal (c .before .before .before .before .before .before .before .before .args .place)) newline _ _ (second-room (c .before .before .before .before))
 
-slice-aggregate-put-word : tie.Need-slice-aggregate-put-word
-slice-aggregate-put-word c = search needs
-
 put-word-requires : tie.Need-put-word-requires
 put-word-requires c κs = room-second newline (c .before .before .before .before .put-field2 .ensures) (second-room (c .before .before .before .before .before .before .before .before .before))
-
-same-length : tie.Need-same-length
-same-length c = search needs
 
 returns : tie.Need-returns
 unfolding refusedText
@@ -52,11 +40,11 @@ pub put-refused-spec : {M : Type 1} → statement M
 put-refused-spec =
     tie.close
     (tie.spec
-    slice-aggregate-put-field
+    (λ c. search needs)
     put-field-requires
-    slice-aggregate-put-field-2
+    (λ c. search needs)
     put-field-requires-2
-    slice-aggregate-put-word
+    (λ c. search needs)
     put-word-requires
-    same-length
+    (λ c. search needs)
     returns)

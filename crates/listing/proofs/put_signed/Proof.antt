@@ -13,9 +13,6 @@ use borrow.Author.Needs.{needs}
 use Rattle.listing.proofs.put_signed.Statement.{statement}
 use Rattle.listing.proofs.put_signed.Tie as tie
 
-size-requires : tie.Need-size-requires
-size-requires c κs = search needs
-
 -- the size that the call gave is that of the number
 sized : (c : tie.After-size) → c .size .result ≡ natAbs (c .before .before .args .v)
 sized c = c .size .ensures ∙ ap natAbs (toZ-ofZ (c .before .before .fits .v))
@@ -28,9 +25,6 @@ not-below c = digits-positive _ (left (pos 0) (c .before .before .before .fits .
 
 slice-write-out : tie.Need-slice-write-out
 slice-write-out c = omega (arith, ap length (below c), c .before .before .before .pre)
-
-add-put-digits : tie.Need-add-put-digits
-add-put-digits c = search needs
 
 put-digits-requires : tie.Need-put-digits-requires
 unfolding decimal
@@ -51,9 +45,6 @@ put-digits-requires-2 : tie.Need-put-digits-requires-2
 unfolding decimal
 put-digits-requires-2 c κs = omega (arith, ap length (not-below (c .before)), c .before .before .before .before .pre)
 
-same-length-2 : tie.Need-same-length-2
-same-length-2 c = search needs
-
 returns-2 : tie.Need-returns-2
 unfolding decimal
 returns-2 c = same-bytes (sym (not-below (c .before .before .before .before))) (c .before .before .put-digits2 .ensures)
@@ -62,12 +53,12 @@ pub put-signed-spec : {M : Type 1} → statement M
 put-signed-spec =
     tie.close
     (tie.spec
-    size-requires
+    (λ c κs. search needs)
     slice-write-out
-    add-put-digits
+    (λ c. search needs)
     put-digits-requires
     same-length
     returns
     put-digits-requires-2
-    same-length-2
+    (λ c. search needs)
     returns-2)

@@ -14,9 +14,6 @@ use Rattle.listing.proofs.put_welfare.Tie as tie
 last : (c : tie.Start) → lastField (toZ w64 (ofZ w64 (c .args .w))) ≡ lastField (c .args .w)
 last c = ap lastField (toZ-ofZ (c .fits .w))
 
-slice-aggregate-put-word : tie.Need-slice-aggregate-put-word
-slice-aggregate-put-word c = search needs
-
 put-word-requires : tie.Need-put-word-requires
 unfolding welfareLine
 put-word-requires c κs =
@@ -29,9 +26,6 @@ put-last-requires c κs =
     let s = c .before .before .before .before .before .before .before in
     same-room _ _ (sym (last s)) (room-second (lastField (s .args .w)) (c .before .before .before .put-word .ensures) (s .pre))
 
-same-length : tie.Need-same-length
-same-length c = search needs
-
 returns : tie.Need-returns
 unfolding welfareLine
 returns c =
@@ -41,4 +35,4 @@ returns c =
 pub put-welfare-spec : {M : Type 1} → statement M
 put-welfare-spec =
     tie.close
-    (tie.spec slice-aggregate-put-word put-word-requires put-last-requires same-length returns)
+    (tie.spec (λ c. search needs) put-word-requires put-last-requires (λ c. search needs) returns)

@@ -44,9 +44,6 @@ mul-x c =
 shared-slice-read-x : tie.Need-shared-slice-read-x Inv-loop μ-loop
 shared-slice-read-x c = omega arith
 
-reading-requires : tie.Need-reading-requires Inv-loop μ-loop
-reading-requires c κs = search needs
-
 mul-r : tie.Need-mul-r Inv-loop μ-loop
 mul-r c =
     let s = c .before .before .before .before .before in
@@ -96,7 +93,7 @@ copy-readings-spec =
     add-c
     mul-x
     shared-slice-read-x
-    reading-requires
+    (λ c κs. search needs)
     mul-r
     slice-set-from-r
     add-i

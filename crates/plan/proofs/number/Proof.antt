@@ -5,11 +5,8 @@ use Rattle.plan.specs.declared.Place.{Place}
 use Rattle.plan.proofs.number.Statement.{statement}
 use Rattle.plan.proofs.number.Tie as tie
 
-place-of-requires : tie.Need-place-of-requires
-place-of-requires c κs = search needs
-
 returns : tie.Need-returns
 returns c = ap (λ (p : Place). p .0) (c .place-of .ensures)
 
 pub number-spec : {M : Type 1} → statement M
-number-spec = tie.close (tie.spec place-of-requires returns)
+number-spec = tie.close (tie.spec (λ c κs. search needs) returns)

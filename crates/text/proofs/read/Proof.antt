@@ -12,15 +12,6 @@ use Rattle.text.specs.Texts.{noneStored, wholeRead, reads}
 use Rattle.text.proofs.read.Statement.{statement}
 use Rattle.text.proofs.read.Tie as tie
 
-start-requires : tie.Need-start-requires
-start-requires c κs = search needs
-
-feed-requires : tie.Need-feed-requires
-feed-requires c κs = search needs
-
-finish-requires : tie.Need-finish-requires
-finish-requires c κs = search needs
-
 -- what the three calls leave, one after another: the first of them with nothing stored, the last on the reader that was fed
 called : (before fedNumbers left : List ℤ) (text : List ℕ) (first next last : Reader) (input : Input) → before ≡ noneStored → last ≡ next
     → first ≡ startReader → (next ≡ fed (readSoFar first before) text .reader) × (fedNumbers ≡ fed (readSoFar first before) text .numbers)
@@ -38,4 +29,4 @@ returns c =
     called _ _ _ (a .text .now) _ _ _ _ refl refl (f .before .before .start .ensures) (f .feed .ensures) (c .finish .ensures)
 
 pub read-spec : {M : Type 1} → statement M
-read-spec = tie.close (tie.spec start-requires feed-requires finish-requires returns)
+read-spec = tie.close (tie.spec (λ c κs. search needs) (λ c κs. search needs) (λ c κs. search needs) returns)

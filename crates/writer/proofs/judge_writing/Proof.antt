@@ -10,12 +10,6 @@ use Rattle.plan.specs.Plan.{plan}
 use Rattle.writer.proofs.judge_writing.Statement.{statement}
 use Rattle.writer.proofs.judge_writing.Tie as tie
 
-judge-requires : tie.Need-judge-requires
-judge-requires c κs = search needs
-
-is-accepted-requires : tie.Need-is-accepted-requires
-is-accepted-requires c κs = search needs
-
 returns : tie.Need-returns
 unfolding writeRefusal
 returns c =
@@ -43,4 +37,4 @@ returns-3 c =
 
 pub judge-writing-spec : {M : Type 1} → statement M
 judge-writing-spec =
-    tie.close (tie.spec judge-requires is-accepted-requires returns returns-2 returns-3)
+    tie.close (tie.spec (λ c κs. search needs) (λ c κs. search needs) returns returns-2 returns-3)

@@ -11,12 +11,6 @@ use Rattle.writer.specs.Calls.{write-within, counts-accepted, slice-acce
 use Rattle.writer.proofs.write_plan.Statement.{statement}
 use Rattle.writer.proofs.write_plan.Tie as tie
 
-judge-writing-requires : tie.Need-judge-writing-requires
-judge-writing-requires c κs = search needs
-
-is-accepted-requires : tie.Need-is-accepted-requires
-is-accepted-requires c κs = search needs
-
 returns : tie.Need-returns
 returns c =
     let a = c .before .before .before .before .args in
@@ -26,12 +20,6 @@ returns c =
 
 passed : (c : tie.Else1) → let a = c .before .before .before .before .args in writeRefusal plan (a .n) (a .m) (a .at) (length (a .out .now)) ≡ none
 passed c = let-through (c .before .before .judge-writing .ensures) (c .before .is-accepted .ensures) (c .if1 .left)
-
-write-orders-requires : tie.Need-write-orders-requires
-write-orders-requires c κs = search needs
-
-same-length : tie.Need-same-length
-same-length c = search needs
 
 returns-2 : tie.Need-returns-2
 returns-2 c =
@@ -53,9 +41,9 @@ pub write-plan-spec : {M : Type 1} → statement M
 write-plan-spec =
     tie.close
     (tie.spec
-    judge-writing-requires
-    is-accepted-requires
+    (λ c κs. search needs)
+    (λ c κs. search needs)
     returns
-    write-orders-requires
-    same-length
+    (λ c κs. search needs)
+    (λ c. search needs)
     returns-2)

@@ -17,14 +17,8 @@ Inv-loop bytes numbers₀ reader₀ i₀ numbers reader i =
 abbrev μ-loop : tie.MeasureT-loop
 μ-loop bytes numbers₀ reader₀ i₀ numbers reader i = length bytes - i
 
-loop-holds : tie.Need-loop-holds Inv-loop μ-loop
-loop-holds c = search needs
-
 shared-slice-read-step : tie.Need-shared-slice-read-step Inv-loop μ-loop
 shared-slice-read-step c = omega arith
-
-step-requires : tie.Need-step-requires Inv-loop μ-loop
-step-requires c κs = search needs
 
 add-i : tie.Need-add-i Inv-loop μ-loop
 add-i c = omega arith
@@ -53,9 +47,9 @@ feed-spec =
     (tie.spec
     Inv-loop
     μ-loop
-    loop-holds
+    (λ c. search needs)
     shared-slice-read-step
-    step-requires
+    (λ c κs. search needs)
     add-i
     loop-less
     loop-again

@@ -21,12 +21,6 @@ faulty : (n m : ℕ) (v : Verdict) (r : Refusal) → refusalOf v ≡ r → isNon
 faulty n m v none e f = absurd (true≢false f)
 faulty n m v (refuse number place) e f = ap Faulty (sym (verdict-back v) ∙ ap verdictOf e)
 
-judge-counts-requires : tie.Need-judge-counts-requires
-judge-counts-requires c κs = search needs
-
-is-accepted-requires : tie.Need-is-accepted-requires
-is-accepted-requires c κs = search needs
-
 returns : tie.Need-returns
 returns c =
     let judged = c .before .before in
@@ -57,4 +51,4 @@ returns-2 : tie.Need-returns-2
 returns-2 c = rw (passed c)
 
 pub call-for-spec : {M : Type 1} → statement M
-call-for-spec = tie.close (tie.spec judge-counts-requires is-accepted-requires returns mul-t6 mul-t7 add-t8 returns-2)
+call-for-spec = tie.close (tie.spec (λ c κs. search needs) (λ c κs. search needs) returns mul-t6 mul-t7 add-t8 returns-2)

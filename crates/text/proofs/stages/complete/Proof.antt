@@ -5,17 +5,8 @@ use borrow.Author.Needs.{needs}
 use Rattle.text.proofs.stages.complete.Statement.{statement}
 use Rattle.text.proofs.stages.complete.Tie as tie
 
-call-for-requires : tie.Need-call-for-requires
-call-for-requires c κs = search needs
-
-enum-known-called : tie.Need-enum-known-called
-enum-known-called c = search needs
-
 returns : tie.Need-returns
 returns c = rw (sym (c .before .before .before .before .call-for .ensures) ∙ c .before .before .called .given .1, eq-eqb _ _ (c .if1 .taken))
-
-enum-told : tie.Need-enum-told
-enum-told c = search needs
 
 returns-2 : tie.Need-returns-2
 returns-2 c = rw (sym (c .before .before .before .before .call-for .ensures) ∙ c .before .before .called .given .1, ne-eqb _ _ (c .if1 .left))
@@ -25,4 +16,4 @@ returns-3 c = rw (sym (c .before .before .call-for .ensures) ∙ c .enum-told .g
 
 pub complete-spec : {M : Type 1} → statement M
 complete-spec =
-    tie.close (tie.spec call-for-requires enum-known-called returns enum-told returns-2 returns-3)
+    tie.close (tie.spec (λ c κs. search needs) (λ c. search needs) returns (λ c. search needs) returns-2 returns-3)

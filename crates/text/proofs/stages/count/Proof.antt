@@ -7,38 +7,17 @@ use Rattle.laws.specs.SignedTests.{left, to-unsigned}
 use Rattle.text.proofs.stages.count.Statement.{statement}
 use Rattle.text.proofs.stages.count.Tie as tie
 
-enum-told : tie.Need-enum-told
-enum-told c = search needs
-
 returns : tie.Need-returns
 returns c = rw (c .before .enum-told .given .1, left (pos 0) (c .before .before .before .fits .z) (c .if1 .taken))
 
 cast-t10 : tie.Need-cast-t10
 cast-t10 c = to-unsigned w32 w64 _ tt (c .before .before .before .fits .z) (c .if1 .left)
 
-enum-known-stage : tie.Need-enum-known-stage
-enum-known-stage c = search needs
-
 returns-2 : tie.Need-returns-2
 returns-2 c = rw (c .before .before .stage .given .1, left (pos 0) (c .before .before .before .before .fits .z) (c .if2 .taken))
 
 cast-begin : tie.Need-cast-begin
 cast-begin c = to-unsigned w32 w64 _ tt (c .before .before .before .before .fits .z) (c .if2 .left)
-
-begin-requires : tie.Need-begin-requires
-begin-requires c κs = search needs
-
-enum-known-stage-2 : tie.Need-enum-known-stage-2
-enum-known-stage-2 c = search needs
-
-one-more-requires : tie.Need-one-more-requires
-one-more-requires c κs = search needs
-
-enum-told-2 : tie.Need-enum-told-2
-enum-told-2 c = search needs
-
-enum-known-stage-3 : tie.Need-enum-known-stage-3
-enum-known-stage-3 c = search needs
 
 returns-3 : tie.Need-returns-3
 returns-3 c =
@@ -53,9 +32,6 @@ returns-4 c =
 returns-5 : tie.Need-returns-5
 returns-5 c = rw (c .before .before .stage2 .given .1, c .one-more .ensures)
 
-returns-6 : tie.Need-returns-6
-returns-6 c = search needs
-
 returns-7 : tie.Need-returns-7
 returns-7 c = rw (c .before .stage3 .given .1)
 
@@ -63,19 +39,19 @@ pub count-spec : {M : Type 1} → statement M
 count-spec =
     tie.close
     (tie.spec
-    enum-told
+    (λ c. search needs)
     returns
     cast-t10
-    enum-known-stage
+    (λ c. search needs)
     returns-2
     cast-begin
-    begin-requires
-    enum-known-stage-2
-    one-more-requires
-    enum-told-2
-    enum-known-stage-3
+    (λ c κs. search needs)
+    (λ c. search needs)
+    (λ c κs. search needs)
+    (λ c. search needs)
+    (λ c. search needs)
     returns-3
     returns-4
     returns-5
-    returns-6
+    (λ c. search needs)
     returns-7)

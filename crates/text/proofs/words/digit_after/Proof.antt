@@ -10,21 +10,9 @@ returns c = simp (lt-leb _ _ (c .if1 .taken))
 returns-2 : tie.Need-returns-2
 returns-2 c = simp (le-leb _ _ (c .before .if1 .left), lt-leb _ _ (c .if2 .taken))
 
-mul-cap : tie.Need-mul-cap
-mul-cap c = search needs
-
-cast-cap : tie.Need-cast-cap
-cast-cap c = search needs
-
-add-cap : tie.Need-add-cap
-add-cap c = search needs
-
-cap-requires : tie.Need-cap-requires
-cap-requires c κs = search needs
-
 returns-3 : tie.Need-returns-3
 returns-3 c = simp (le-leb _ _ (c .before .before .if1 .left), le-leb _ _ (c .before .if2 .left), c .cap .ensures)
 
 pub digit-after-spec : {M : Type 1} → statement M
 digit-after-spec =
-    tie.close (tie.spec returns returns-2 mul-cap cast-cap add-cap cap-requires returns-3)
+    tie.close (tie.spec returns returns-2 (λ c. search needs) (λ c. search needs) (λ c. search needs) (λ c κs. search needs) returns-3)

@@ -16,9 +16,6 @@ use Rattle.text.proofs.words.signed.Tie as tie
 returns : tie.Need-returns
 returns c = simp (c .before .if1 .taken, lt-leb _ _ (c .if2 .taken))
 
-cast-z : tie.Need-cast-z
-cast-z c = search needs
-
 sub-z : tie.Need-sub-z
 sub-z c = subst (SFits w64) (sym (difference _ (c .if2 .left))) (wide-fits _ (c .if2 .left))
 
@@ -35,9 +32,6 @@ returns-2 c =
 returns-3 : tie.Need-returns-3
 returns-3 c = simp (c .before .if1 .left, lt-leb _ _ (c .if3 .taken))
 
-cast-t8 : tie.Need-cast-t8
-cast-t8 c = search needs
-
 returns-4 : tie.Need-returns-4
 returns-4 c =
     let h : c .before .before .args .value < 2 ^ 31 = omega (arith, c .if3 .left) in
@@ -45,4 +39,4 @@ returns-4 c =
 
 pub signed-spec : {M : Type 1} → statement M
 signed-spec =
-    tie.close (tie.spec returns cast-z sub-z cast-t7 returns-2 returns-3 cast-t8 returns-4)
+    tie.close (tie.spec returns (λ c. search needs) sub-z cast-t7 returns-2 returns-3 (λ c. search needs) returns-4)
