@@ -21,18 +21,6 @@ loop-holds c = (omega arith, refl, paste-zero (c .args .out .now) (c .args .at) 
 shared-slice-read-out : tie.Need-shared-slice-read-out Inv-loop μ-loop
 shared-slice-read-out c = c .before .loop-test .taken
 
-add-out : tie.Need-add-out Inv-loop μ-loop
-add-out c = omega arith
-
-slice-write-out : tie.Need-slice-write-out Inv-loop μ-loop
-slice-write-out c = omega arith
-
-add-i : tie.Need-add-i Inv-loop μ-loop
-add-i c = omega arith
-
-loop-less : tie.Need-loop-less Inv-loop μ-loop
-loop-less c = omega arith
-
 loop-again : tie.Need-loop-again Inv-loop μ-loop
 loop-again c =
     let l = c .before .before .loop in
@@ -41,9 +29,6 @@ loop-again c =
       length-set (l .out) (a .at + l .i) _ ∙ l .inv .1,
       one-more 0 (a .out .now) (l .out) (a .at) (a .word .now) (l .i) _ (l .inv .2) refl (omega arith) (c .before .loop-test .taken),
     )
-
-add-result : tie.Need-add-result Inv-loop μ-loop
-add-result c = omega arith
 
 same-length : tie.Need-same-length Inv-loop μ-loop
 same-length c = c .before .loop .inv .1
@@ -63,11 +48,11 @@ put-word-spec =
     μ-loop
     loop-holds
     shared-slice-read-out
-    add-out
-    slice-write-out
-    add-i
-    loop-less
+    (λ c. omega arith)
+    (λ c. omega arith)
+    (λ c. omega arith)
+    (λ c. omega arith)
     loop-again
-    add-result
+    (λ c. omega arith)
     same-length
     returns)

@@ -32,32 +32,17 @@ source-length s = readings-length (s .args .sheet .now) (s .args .from) (length 
 loop-holds : tie.Need-loop-holds Inv-loop μ-loop
 loop-holds c = (omega arith, refl, paste-zero (c .before .args .out .now) 0 (source (c .before)))
 
-add-c : tie.Need-add-c Inv-loop μ-loop
-add-c c = omega arith
-
 mul-x : tie.Need-mul-x Inv-loop μ-loop
 mul-x c =
     let s = c .before .before .before in
     let h : s .args .from + c .before .loop .i < length (s .args .sheet .now) = omega arith in
     scaled-fits _ _ 4 h (s .good .0 .1)
 
-shared-slice-read-x : tie.Need-shared-slice-read-x Inv-loop μ-loop
-shared-slice-read-x c = omega arith
-
 mul-r : tie.Need-mul-r Inv-loop μ-loop
 mul-r c =
     let s = c .before .before .before .before .before in
     let h : c .before .before .before .loop .i < length (s .args .out .now) = omega arith in
     scaled-fits _ _ 4 h (s .good .1 .1 .0 .1)
-
-slice-set-from-r : tie.Need-slice-set-from-r Inv-loop μ-loop
-slice-set-from-r c = omega arith
-
-add-i : tie.Need-add-i Inv-loop μ-loop
-add-i c = omega arith
-
-loop-less : tie.Need-loop-less Inv-loop μ-loop
-loop-less c = omega arith
 
 loop-again : tie.Need-loop-again Inv-loop μ-loop
 loop-again c =
@@ -73,9 +58,6 @@ loop-again c =
           (rw (source-length s) h)),
     )
 
-same-length : tie.Need-same-length Inv-loop μ-loop
-same-length c = omega arith
-
 returns : tie.Need-returns Inv-loop μ-loop
 returns c =
     let s = c .before .before .before in
@@ -90,14 +72,14 @@ copy-readings-spec =
     Inv-loop
     μ-loop
     loop-holds
-    add-c
+    (λ c. omega arith)
     mul-x
-    shared-slice-read-x
+    (λ c. omega arith)
     (λ c κs. search needs)
     mul-r
-    slice-set-from-r
-    add-i
-    loop-less
+    (λ c. omega arith)
+    (λ c. omega arith)
+    (λ c. omega arith)
     loop-again
-    same-length
+    (λ c. omega arith)
     returns)

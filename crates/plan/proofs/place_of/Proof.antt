@@ -1,9 +1,14 @@
 -- `place_of` meets its contract: each arm is told the family.
-use mathlib.Core.Path.{sym, ap}
+use mathlib.Core.Path.{_≡_, sym, ap}
 use borrow.Author.Needs.{needs}
-use Rattle.plan.specs.Names.{familyPlace}
+use Rattle.plan.specs.Names.{Family, familyPlace}
 use Rattle.plan.proofs.place_of.Statement.{statement}
 use Rattle.plan.proofs.place_of.Tie as tie
+
+-- the place of the family that is told is that of the one lent
+of-family : (s : tie.Start) (told : Family) → s .args .f ≡ told
+    → familyPlace (s .args .n) (s .args .m) (s .args .lines) (s .args .sets) told ≡ familyPlace (s .args .n) (s .args .m) (s .args .lines) (s .args .sets) (s .args .f)
+of-family s told e = sym (ap (familyPlace (s .args .n) (s .args .m) (s .args .lines) (s .args .sets)) e)
 
 pub place-of-spec : {M : Type 1} → statement M
 place-of-spec =
@@ -39,33 +44,33 @@ place-of-spec =
     (λ c. search needs)
     (λ c. search needs)
     (λ c. search needs)
-    (λ c. let a = c .before .before .args in sym (ap (familyPlace (a .n) (a .m) (a .lines) (a .sets)) (c .enum-told .given .1)))
-    (λ c. let a = c .before .before .args in sym (ap (familyPlace (a .n) (a .m) (a .lines) (a .sets)) (c .enum-told2 .given .1)))
-    (λ c. let a = c .before .before .args in sym (ap (familyPlace (a .n) (a .m) (a .lines) (a .sets)) (c .enum-told3 .given .1)))
-    (λ c. let a = c .before .before .args in sym (ap (familyPlace (a .n) (a .m) (a .lines) (a .sets)) (c .enum-told4 .given .1)))
-    (λ c. let a = c .before .before .args in sym (ap (familyPlace (a .n) (a .m) (a .lines) (a .sets)) (c .enum-told5 .given .1)))
-    (λ c. let a = c .before .before .args in sym (ap (familyPlace (a .n) (a .m) (a .lines) (a .sets)) (c .enum-told6 .given .1)))
-    (λ c. let a = c .before .before .args in sym (ap (familyPlace (a .n) (a .m) (a .lines) (a .sets)) (c .enum-told7 .given .1)))
-    (λ c. let a = c .before .before .args in sym (ap (familyPlace (a .n) (a .m) (a .lines) (a .sets)) (c .enum-told8 .given .1)))
-    (λ c. let a = c .before .before .args in sym (ap (familyPlace (a .n) (a .m) (a .lines) (a .sets)) (c .enum-told9 .given .1)))
-    (λ c. let a = c .before .before .args in sym (ap (familyPlace (a .n) (a .m) (a .lines) (a .sets)) (c .enum-told10 .given .1)))
-    (λ c. let a = c .before .before .args in sym (ap (familyPlace (a .n) (a .m) (a .lines) (a .sets)) (c .enum-told11 .given .1)))
-    (λ c. let a = c .before .before .args in sym (ap (familyPlace (a .n) (a .m) (a .lines) (a .sets)) (c .enum-told12 .given .1)))
-    (λ c. let a = c .before .before .args in sym (ap (familyPlace (a .n) (a .m) (a .lines) (a .sets)) (c .enum-told13 .given .1)))
-    (λ c. let a = c .before .before .args in sym (ap (familyPlace (a .n) (a .m) (a .lines) (a .sets)) (c .enum-told14 .given .1)))
-    (λ c. let a = c .before .before .args in sym (ap (familyPlace (a .n) (a .m) (a .lines) (a .sets)) (c .enum-told15 .given .1)))
-    (λ c. let a = c .before .before .args in sym (ap (familyPlace (a .n) (a .m) (a .lines) (a .sets)) (c .enum-told16 .given .1)))
-    (λ c. let a = c .before .before .args in sym (ap (familyPlace (a .n) (a .m) (a .lines) (a .sets)) (c .enum-told17 .given .1)))
-    (λ c. let a = c .before .before .args in sym (ap (familyPlace (a .n) (a .m) (a .lines) (a .sets)) (c .enum-told18 .given .1)))
-    (λ c. let a = c .before .before .args in sym (ap (familyPlace (a .n) (a .m) (a .lines) (a .sets)) (c .enum-told19 .given .1)))
-    (λ c. let a = c .before .before .args in sym (ap (familyPlace (a .n) (a .m) (a .lines) (a .sets)) (c .enum-told20 .given .1)))
-    (λ c. let a = c .before .before .args in sym (ap (familyPlace (a .n) (a .m) (a .lines) (a .sets)) (c .enum-told21 .given .1)))
-    (λ c. let a = c .before .before .args in sym (ap (familyPlace (a .n) (a .m) (a .lines) (a .sets)) (c .enum-told22 .given .1)))
-    (λ c. let a = c .before .before .args in sym (ap (familyPlace (a .n) (a .m) (a .lines) (a .sets)) (c .enum-told23 .given .1)))
-    (λ c. let a = c .before .before .args in sym (ap (familyPlace (a .n) (a .m) (a .lines) (a .sets)) (c .enum-told24 .given .1)))
-    (λ c. let a = c .before .before .args in sym (ap (familyPlace (a .n) (a .m) (a .lines) (a .sets)) (c .enum-told25 .given .1)))
-    (λ c. let a = c .before .before .args in sym (ap (familyPlace (a .n) (a .m) (a .lines) (a .sets)) (c .enum-told26 .given .1)))
-    (λ c. let a = c .before .before .args in sym (ap (familyPlace (a .n) (a .m) (a .lines) (a .sets)) (c .enum-told27 .given .1)))
-    (λ c. let a = c .before .before .args in sym (ap (familyPlace (a .n) (a .m) (a .lines) (a .sets)) (c .enum-told28 .given .1)))
-    (λ c. let a = c .before .before .args in sym (ap (familyPlace (a .n) (a .m) (a .lines) (a .sets)) (c .enum-told29 .given .1)))
-    (λ c. let a = c .before .before .args in sym (ap (familyPlace (a .n) (a .m) (a .lines) (a .sets)) (c .enum-told30 .given .1))))
+    (λ c. of-family (c .before .before) _ (c .enum-told .given .1))
+    (λ c. of-family (c .before .before) _ (c .enum-told2 .given .1))
+    (λ c. of-family (c .before .before) _ (c .enum-told3 .given .1))
+    (λ c. of-family (c .before .before) _ (c .enum-told4 .given .1))
+    (λ c. of-family (c .before .before) _ (c .enum-told5 .given .1))
+    (λ c. of-family (c .before .before) _ (c .enum-told6 .given .1))
+    (λ c. of-family (c .before .before) _ (c .enum-told7 .given .1))
+    (λ c. of-family (c .before .before) _ (c .enum-told8 .given .1))
+    (λ c. of-family (c .before .before) _ (c .enum-told9 .given .1))
+    (λ c. of-family (c .before .before) _ (c .enum-told10 .given .1))
+    (λ c. of-family (c .before .before) _ (c .enum-told11 .given .1))
+    (λ c. of-family (c .before .before) _ (c .enum-told12 .given .1))
+    (λ c. of-family (c .before .before) _ (c .enum-told13 .given .1))
+    (λ c. of-family (c .before .before) _ (c .enum-told14 .given .1))
+    (λ c. of-family (c .before .before) _ (c .enum-told15 .given .1))
+    (λ c. of-family (c .before .before) _ (c .enum-told16 .given .1))
+    (λ c. of-family (c .before .before) _ (c .enum-told17 .given .1))
+    (λ c. of-family (c .before .before) _ (c .enum-told18 .given .1))
+    (λ c. of-family (c .before .before) _ (c .enum-told19 .given .1))
+    (λ c. of-family (c .before .before) _ (c .enum-told20 .given .1))
+    (λ c. of-family (c .before .before) _ (c .enum-told21 .given .1))
+    (λ c. of-family (c .before .before) _ (c .enum-told22 .given .1))
+    (λ c. of-family (c .before .before) _ (c .enum-told23 .given .1))
+    (λ c. of-family (c .before .before) _ (c .enum-told24 .given .1))
+    (λ c. of-family (c .before .before) _ (c .enum-told25 .given .1))
+    (λ c. of-family (c .before .before) _ (c .enum-told26 .given .1))
+    (λ c. of-family (c .before .before) _ (c .enum-told27 .given .1))
+    (λ c. of-family (c .before .before) _ (c .enum-told28 .given .1))
+    (λ c. of-family (c .before .before) _ (c .enum-told29 .given .1))
+    (λ c. of-family (c .before .before) _ (c .enum-told30 .given .1)))

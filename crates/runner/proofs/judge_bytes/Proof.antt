@@ -21,9 +21,6 @@ abbrev μ-loop : tie.MeasureT-loop
 loop-holds : tie.Need-loop-holds Inv-loop μ-loop
 loop-holds c = (ap (λ (p : Parsed). p .refusal) (rest-start (c .before .args .bytes .now)), omega arith)
 
-read-order-requires : tie.Need-read-order-requires Inv-loop μ-loop
-read-order-requires c κs = tt
-
 returns : tie.Need-returns Inv-loop μ-loop
 returns c =
     let l = c .before .before .before .before .before .loop in
@@ -59,7 +56,7 @@ judge-bytes-spec =
     Inv-loop
     μ-loop
     loop-holds
-    read-order-requires
+    (λ c κs. tt)
     (λ c. search needs)
     returns
     (λ c. search needs)

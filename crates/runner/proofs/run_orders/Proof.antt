@@ -22,9 +22,6 @@ abbrev μ-loop : tie.MeasureT-loop
 loop-holds : tie.Need-loop-holds Inv-loop μ-loop
 loop-holds c = begin (c .before .before .args .bytes .now) (c .before .before .args .sheet .now) (c .before .before .pre)
 
-read-order-requires : tie.Need-read-order-requires Inv-loop μ-loop
-read-order-requires c κs = tt
-
 same-length : tie.Need-same-length Inv-loop μ-loop
 same-length c = c .before .before .before .before .loop .inv .is-sheet .cells ∙ sym (c .before .before .before .before .before .before .before .pre .cells)
 
@@ -76,7 +73,7 @@ run-orders-spec =
     Inv-loop
     μ-loop
     loop-holds
-    read-order-requires
+    (λ c κs. tt)
     (λ c. search needs)
     same-length
     returns

@@ -41,23 +41,11 @@ loop-holds c = (omega arith, c .pre, refl, begun (c .args .sheet .now) (c .args 
 mul-sheet : tie.Need-mul-sheet Inv-loop μ-loop
 mul-sheet c = scaled-fits _ _ 4 (let h : c .before .loop .c < length (c .before .before .args .sheet .now) = omega arith in h) (c .before .before .good .0 .1)
 
-slice-write-sheet : tie.Need-slice-write-sheet Inv-loop μ-loop
-slice-write-sheet c = omega arith
-
-add-c : tie.Need-add-c Inv-loop μ-loop
-add-c c = omega arith
-
-loop-less : tie.Need-loop-less Inv-loop μ-loop
-loop-less c = omega arith
-
 loop-again : tie.Need-loop-again Inv-loop μ-loop
 loop-again c =
     let a = c .before .before .args in
     let l = c .before .loop in
     (omega arith, omega arith, length-set (l .sheet) (l .c) 0 ∙ l .inv .2, cleared (a .sheet .now) (l .sheet) (a .at) (l .c) (l .inv .0) (omega arith) (l .inv .3))
-
-same-length : tie.Need-same-length Inv-loop μ-loop
-same-length c = omega arith
 
 returns : tie.Need-returns Inv-loop μ-loop
 returns c =
@@ -73,9 +61,9 @@ clear-from-spec =
     μ-loop
     loop-holds
     mul-sheet
-    slice-write-sheet
-    add-c
-    loop-less
+    (λ c. omega arith)
+    (λ c. omega arith)
+    (λ c. omega arith)
     loop-again
-    same-length
+    (λ c. omega arith)
     returns)

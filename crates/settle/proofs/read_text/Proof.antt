@@ -24,12 +24,6 @@ returns c =
     let l = t .before .before .before .before .before .before .before .before .loop in
     turn-over _ (l .reader) (l .numbers) _ (l .turns) (l .turns - 1) _ _ _ (l .inv) (omega arith) (sym (t .take-turn .ensures .0) ∙ told .input .given .1) (t .take-turn .ensures .1)
 
-sub-turns : tie.Need-sub-turns Inv-loop μ-loop
-sub-turns c = omega arith
-
-loop-less : tie.Need-loop-less Inv-loop μ-loop
-loop-less c = omega arith
-
 loop-again : tie.Need-loop-again Inv-loop μ-loop
 loop-again c =
     let told = c .before in
@@ -58,8 +52,8 @@ read-text-spec =
     (λ c. search needs)
     (λ c. search needs)
     returns
-    sub-turns
-    loop-less
+    (λ c. omega arith)
+    (λ c. omega arith)
     loop-again
     (λ c κs. search needs)
     returns-2)

@@ -17,15 +17,6 @@ Inv-loop bytes numbers₀ reader₀ i₀ numbers reader i =
 abbrev μ-loop : tie.MeasureT-loop
 μ-loop bytes numbers₀ reader₀ i₀ numbers reader i = length bytes - i
 
-shared-slice-read-step : tie.Need-shared-slice-read-step Inv-loop μ-loop
-shared-slice-read-step c = omega arith
-
-add-i : tie.Need-add-i Inv-loop μ-loop
-add-i c = omega arith
-
-loop-less : tie.Need-loop-less Inv-loop μ-loop
-loop-less c = omega arith
-
 loop-again : tie.Need-loop-again Inv-loop μ-loop
 loop-again c =
     let l = c .before .before .before .before .loop in
@@ -48,9 +39,9 @@ feed-spec =
     Inv-loop
     μ-loop
     (λ c. search needs)
-    shared-slice-read-step
+    (λ c. omega arith)
     (λ c κs. search needs)
-    add-i
-    loop-less
+    (λ c. omega arith)
+    (λ c. omega arith)
     loop-again
     returns)
