@@ -22,7 +22,7 @@ use Rattle.laws.specs.AcceptedBook.{accepted-sound}
 use Rattle.theory.specs.BestClearing.{best-welfare, welfare-of-best}
 use Rattle.runner.specs.Runs.{RunsAs, orders-bytes-run}
 use Rattle.plan.specs.Plan.{plan}
-use Rattle.plan.specs.List.{plan-orders, plan-length-limit}
+use Rattle.plan.specs.PlanOrders.{plan-orders, plan-length-limit}
 use Rattle.plan.specs.Asking.{asked-at-end}
 use Rattle.plan.specs.Collected.{collected-plan}
 use Rattle.clearing.specs.PlanClears.{plan-outcome}

@@ -14,7 +14,7 @@ use Rattle.definitions.specs.Outcome.{orderLimit}
 use Rattle.definitions.specs.Plan.{lowestFirst, Written, writtenCounts, countBytes, totalRefusal, totalSlice, bytesRefusal, countsSlice}
 use Rattle.laws.specs.Sizes.{counted}
 use Rattle.plan.specs.Plan.{plan}
-use Rattle.plan.specs.List.{plan-length-limit}
+use Rattle.plan.specs.PlanOrders.{plan-length-limit}
 use Rattle.writer.specs.Calls.{write-within}
 use Rattle.writer.specs.Sequence.{orders-within, bytes-within}
 use Rattle.host.specs.Calls.{total-counts, total-given, bytes-writing, counts-given}

@@ -2,7 +2,7 @@
 use mathlib.Core.Path.{_≡_, refl, ap, subst, _∙_}
 use mathlib.Core.Logic.{_≢_}
 use mathlib.Core.Bool.{Bool, true}
-use mathlib.Core.List.{List, _++_, map, map-append}
+use mathlib.Core.List.{List, [], _∷_, _++_, map, map-append}
 use Prim.Native.Nat.{ℕ, zero, suc, _+_, _*_, _≤_, _<_}
 use native.Mathlib.Nat.{le-refl}
 use native.Mathlib.Omega.{arith}
@@ -15,14 +15,13 @@ use Rattle.definitions.specs.Limits.{cellCount}
 use Rattle.definitions.specs.Arithmetic.{sumTo}
 use Rattle.definitions.specs.Book.{Book}
 use Rattle.definitions.specs.Sheet.{sealedSheet, firstResult, amountCell, flowCell, priceCell, presenceCell, firstScratch}
-use Rattle.definitions.specs.Machine.{cell, runOf}
+use Rattle.definitions.specs.Machine.{cell, stepOf, runOf}
 use Rattle.laws.specs.Tests.{Lt?, less, more, lt?}
 use Rattle.laws.specs.AcceptedBook.{Sound}
 use Rattle.plan.specs.Orders.{OrderOn, constant, operate, target, orderOf, renamed, run}
 use Rattle.plan.specs.Loops.{loop, oneOf}
 use Rattle.plan.specs.Names.{Family, number, Name, at, Amounts, Flows, Prices, Temporaries, familyCount, rowsOf, columnsOf}
 use Rattle.plan.specs.Layout.{address-below, address-apart}
-use Rattle.laws.specs.Run.{run-append}
 use Rattle.plan.specs.Simulation.{run-length, run-other, AllNamed, run-agrees}
 use Rattle.plan.specs.Entries.{all-imply}
 use Rattle.plan.specs.Phased.{flat, flat-last, each-flat}
@@ -44,6 +43,11 @@ pub record HoldsClearing (B : Book) (r : List ℕ) : Type 0 where
   pub price-cells : (p : ℕ) → p < B .m → cell r (priceCell (B .n) (B .m) p) ≡ closedPrice B p
   pub presence-cells : (p : ℕ) → p < B .m → cell r (presenceCell (B .n) (B .m) p) ≡ closedPresence B p
   pub scratch-zero : (c : ℕ) → firstScratch (B .n) (B .m) ≤ c → cell r c ≡ 0
+
+run-append : (xs ys : List Order) (s : List ℕ) → runOf (xs ++ ys) s ≡ runOf ys (runOf xs s)
+unfolding runOf
+run-append [] ys s = refl
+run-append (x ∷ xs) ys s = run-append xs ys (stepOf s x)
 
 module _ (n m : ℕ) where
   -- the sheet after orders over names

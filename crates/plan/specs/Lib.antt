@@ -30,7 +30,7 @@ pub mod Numbered
 pub mod AnExample
 pub mod Proper
 pub mod Plan
-pub mod List
+pub mod PlanOrders
 -- From the sealed sheet to the results.
 pub mod SealedSheet
 pub mod Sealed

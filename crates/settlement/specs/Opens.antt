@@ -14,7 +14,7 @@ use Rattle.laws.specs.AcceptedBook.{Sound, accepted-sound}
 use Rattle.judging.specs.Cells.{sheet-accepted}
 use Rattle.machine.specs.Run.{run-sheet}
 use Rattle.plan.specs.Plan.{plan}
-use Rattle.plan.specs.List.{plan-orders}
+use Rattle.plan.specs.PlanOrders.{plan-orders}
 use Rattle.plan.specs.SealedSheet.{sealed-is-sheet}
 
 module _ (B : Book) (accepted : AcceptedBook B) where

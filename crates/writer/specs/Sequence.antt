@@ -24,7 +24,7 @@ use Rattle.laws.specs.Sizes.{counted}
 use Rattle.codec.specs.OrderBytes.{at-most-eight}
 use Rattle.runner.specs.Runs.{orders-bytes-run, run-leaves-sheet}
 use Rattle.plan.specs.Plan.{plan}
-use Rattle.plan.specs.List.{plan-well-formed, plan-orders}
+use Rattle.plan.specs.PlanOrders.{plan-well-formed, plan-orders}
 use Rattle.plan.specs.Asking.{within-total}
 use Rattle.codec.specs.Fitting.{bytes-of-both, bytes-of-none, bytes-in-parts, bytes-at-most, fits-none, fits-at-most, some-fits}
 use Rattle.writer.specs.Calls.{counts-accepted, slice-accepted}

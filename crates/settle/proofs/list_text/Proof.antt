@@ -3,7 +3,7 @@ use mathlib.Core.Path.{refl}
 use borrow.Author.Needs.{needs}
 use Rattle.text.specs.Reading.{inputFor}
 use Rattle.plan.specs.Plan.{plan}
-use Rattle.settlement.specs.Settles.{settled-first}
+use Rattle.settlement.specs.WholeText.{settled-first}
 use Rattle.settle.proofs.list_text.Statement.{statement}
 use Rattle.settle.proofs.list_text.Tie as tie
 

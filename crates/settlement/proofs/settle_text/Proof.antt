@@ -6,7 +6,7 @@ use borrow.Author.Needs.{needs}
 use Rattle.definitions.specs.Settle.{Input, settleInput, settleText}
 use Rattle.plan.specs.Plan.{plan}
 use Rattle.settlement.specs.Settled.{settledSize, settledSlice, settledSheet}
-use Rattle.settlement.specs.Settles.{settled-over}
+use Rattle.settlement.specs.WholeText.{settled-over}
 use Rattle.settlement.proofs.settle_text.Statement.{statement}
 use Rattle.settlement.proofs.settle_text.Tie as tie
 
