@@ -11,7 +11,7 @@ use Rattle.codec.specs.Writes.{size-with-room, bytes-with-room, bytes-without-r
 use Rattle.plan.specs.Asking.{total-accepted}
 use Rattle.plan.specs.Phased.{Has}
 use Rattle.plan.specs.Plan.{plan}
-use Rattle.plan.specs.List.{total-limit}
+use Rattle.plan.specs.PlanOrders.{total-limit}
 use Rattle.orders.specs.Entry.{order-has, none-left}
 use Rattle.orders.proofs.Filling.{Filled, begins, goes-on, at-end, no-room, ends, had-room}
 use Rattle.orders.proofs.write.write_from.Statement.{statement}

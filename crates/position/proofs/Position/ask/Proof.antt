@@ -9,7 +9,7 @@ use Rattle.definitions.specs.declared.Order.the-variants.{Constant}
 use Rattle.definitions.specs.Plan.{order, refused, total}
 use Rattle.laws.specs.Search.{turned-away, let-through}
 use Rattle.plan.specs.Plan.{plan}
-use Rattle.plan.specs.List.{total-limit}
+use Rattle.plan.specs.PlanOrders.{total-limit}
 use Rattle.orders.specs.Entry.{order-there, nothing-there}
 use Rattle.position.proofs.Answers.{asked-before-total, asked-refused, asked-from-total}
 use Rattle.position.proofs.Position.ask.Statement.{statement}
