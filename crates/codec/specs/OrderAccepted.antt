@@ -10,7 +10,7 @@ use Rattle.definitions.specs.declared.Order.{Order}
 use Rattle.definitions.specs.declared.Order.the-variants.{Constant, Sum, Difference, Product, Less, Equal}
 use Rattle.definitions.specs.Limits.{cellCount, modulus}
 use Rattle.definitions.specs.Machine.{WellFormed, ThreeCells}
-use Rattle.definitions.specs.Bytes.{numberLimit, numberBytes, orderBytes, Read, found, numberAt, below, cellAt, constantAt, andThen, cellsOrders, ofKind, lastAt, restAt, targetAt, orderAt}
+use Rattle.definitions.specs.Bytes.{numberLimit, numberBytes, orderBytes, Read, found, numberAt, below, cellAt, constantAt, andThen, cellsOrders, ofKind, lastAt, restAt, targetAt, orderAt, kindCount}
 use Rattle.laws.specs.Tests.{Lt?, less, more, lt?}
 use Rattle.codec.specs.OrderBytes.{constantBytes, cellsBytes}
 use Rattle.codec.specs.OrderReadBack.{number-there, number-too-big, kind-there, cell-there}
@@ -50,7 +50,7 @@ module _ (s : List ℕ) where
       let t₂ = through (constantAt s at₂) (λ x n. found (Constant d x) n) o next q₂ in
       (hd, constant-limited at₂ k rest (n₂ .then) (t₂ .was))
 
-  cells-accepted : (at kind d a b : ℕ) (rest : List ℕ) {o : Order} {next : ℕ} → 0 < kind → kind < 6 → drop at s ≡ cellsBytes kind d a b ++ rest → orderAt s at ≡ found o next → ThreeCells d a b
+  cells-accepted : (at kind d a b : ℕ) (rest : List ℕ) {o : Order} {next : ℕ} → 0 < kind → kind < kindCount → drop at s ≡ cellsBytes kind d a b ++ rest → orderAt s at ≡ found o next → ThreeCells d a b
   unfolding orderAt targetAt restAt lastAt
   cells-accepted at kind d a b rest {o} {next} h l e q =
       let n₁ = kind-there s at kind (numberBytes d ++ (numberBytes a ++ (numberBytes b ++ rest))) l (simp append-assoc at e) in

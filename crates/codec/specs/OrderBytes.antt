@@ -9,7 +9,8 @@ use Rattle.definitions.specs.declared.Order.the-variants.{Constant, Sum, Differ
 use Rattle.definitions.specs.Limits.{cellCount}
 use Rattle.definitions.specs.Machine.{WellFormed, ThreeCells}
 use Rattle.definitions.specs.Bytes as bytes
-use Rattle.definitions.specs.Bytes.{mostGroups, numberBytes, numbersBytes, numbersOf, orderBytes}
+use Rattle.definitions.specs.Bytes.{mostGroups, numberBytes, numbersBytes, numbersOf, orderBytes, kindCount}
+use Rattle.definitions.specs.Plan.{longestOrder}
 use Rattle.codec.specs.Groups as groups
 use Rattle.codec.specs.Groups.{Bytes, groupsLimit}
 
@@ -64,7 +65,7 @@ pub at-least-three : (o : Order) → 3 ≤ length (orderBytes o)
 unfolding orderBytes
 at-least-three o = omega (arith, three-numbers o, numbers-some (numbersOf o))
 
-kind-size : (v : ℕ) → v < 6 → length (numberBytes v) ≤ 1
+kind-size : (v : ℕ) → v < kindCount → length (numberBytes v) ≤ 1
 unfolding numberBytes groupsLimit
 kind-size v h = groups.at-most-within 0 mostGroups v (omega arith)
 
@@ -76,11 +77,11 @@ number-size : (v : ℕ) → length (numberBytes v) ≤ mostGroups
 unfolding numberBytes
 number-size v = groups.at-most mostGroups v
 
-cells-size : (kind d a b : ℕ) → kind < 6 → ThreeCells d a b → length (cellsBytes kind d a b) ≤ 8
+cells-size : (kind d a b : ℕ) → kind < kindCount → ThreeCells d a b → length (cellsBytes kind d a b) ≤ longestOrder
 cells-size kind d a b h w = omega (arith, length₄ (numberBytes kind) (numberBytes d) (numberBytes a) (numberBytes b), kind-size kind h, cell-size d (w .0), cell-size a (w .1), cell-size b (w .2))
 
 -- "The longest order is 8 bytes."
-pub at-most-eight : (o : Order) → WellFormed o → length (orderBytes o) ≤ 8
+pub at-most-eight : (o : Order) → WellFormed o → length (orderBytes o) ≤ longestOrder
 unfolding orderBytes
 at-most-eight (Constant d k) w = omega (arith, length₃ (numberBytes 0) (numberBytes d) (numberBytes k), kind-size 0 (omega arith), cell-size d (w .0), number-size k)
 at-most-eight (Sum d a b) w = cells-size 1 d a b (omega arith) w
@@ -90,6 +91,6 @@ at-most-eight (Less d a b) w = cells-size 4 d a b (omega arith) w
 at-most-eight (Equal d a b) w = cells-size 5 d a b (omega arith) w
 
 -- one of 8 bytes: example 10
-pub longest-order : (o : Order) × WellFormed o × (length (orderBytes o) ≡ 8)
+pub longest-order : (o : Order) × WellFormed o × (length (orderBytes o) ≡ longestOrder)
 unfolding orderBytes numberBytes bytes.groups
 longest-order = (Constant 300 2147483646, (omega arith, omega arith), refl)

@@ -11,7 +11,7 @@ use Rattle.definitions.specs.declared.Order.{Order}
 use Rattle.definitions.specs.declared.Order.the-variants.{Constant, Sum, Difference, Product, Less, Equal}
 use Rattle.definitions.specs.Limits.{cellCount, modulus}
 use Rattle.definitions.specs.Machine.{WellFormed, ThreeCells}
-use Rattle.definitions.specs.Bytes.{mostGroups, numberLimit, numberBytes, orderBytes, readGroups, Read, fault, found, placed, numberAt, below, kindAt, cellAt, constantAt, cellsOrders, ofKind, lastAt, restAt, targetAt, orderAt}
+use Rattle.definitions.specs.Bytes.{mostGroups, numberLimit, numberBytes, orderBytes, readGroups, Read, fault, found, placed, numberAt, below, kindAt, cellAt, constantAt, cellsOrders, ofKind, lastAt, restAt, targetAt, orderAt, kindCount}
 use Rattle.laws.specs.Tests.{Lt?, less, more, lt?}
 use Rattle.codec.specs.Groups as groups
 use Rattle.codec.specs.Groups.{groupsLimit}
@@ -45,9 +45,9 @@ module _ (s : List ℕ) where
       go (less l) = ap (placed at) (groups.groups-read-back mostGroups v rest (omega arith) l) ∙ simp (le-ltb v numberLimit h)
       go (more l) = ap (placed at) (groups.too-big mostGroups true v rest l)
 
-  pub kind-there : (at v : ℕ) (rest : List ℕ) → v < 6 → drop at s ≡ numberBytes v ++ rest → There (kindAt s at) at v rest
+  pub kind-there : (at v : ℕ) (rest : List ℕ) → v < kindCount → drop at s ≡ numberBytes v ++ rest → There (kindAt s at) at v rest
   unfolding kindAt
-  kind-there at v rest h e = below-there 6 10 at v rest (omega arith) h e
+  kind-there at v rest h e = below-there kindCount 10 at v rest (omega arith) h e
 
   pub cell-there : (at v : ℕ) (rest : List ℕ) → v < cellCount → drop at s ≡ numberBytes v ++ rest → There (cellAt s at) at v rest
   unfolding cellAt
@@ -67,7 +67,7 @@ module _ (s : List ℕ) where
       rw (n₁ .read, n₂ .read, n₃ .read) (ap (found (Constant d k)) (omega (arith, length₃ (numberBytes 0) (numberBytes d) (numberBytes k))))
 
   -- the order o of a kind 1 to 5
-  cells-order-there : (at kind d a b : ℕ) (o : Order) (rest : List ℕ) → 0 < kind → kind < 6
+  cells-order-there : (at kind d a b : ℕ) (o : Order) (rest : List ℕ) → 0 < kind → kind < kindCount
       → ((next : ℕ) → ofKind kind next (cellsOrders d a b) ≡ found o next) → ThreeCells d a b → drop at s ≡ cellsBytes kind d a b ++ rest
       → orderAt s at ≡ found o (at + length (cellsBytes kind d a b))
   unfolding orderAt targetAt restAt lastAt

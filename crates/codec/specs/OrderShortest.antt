@@ -12,7 +12,7 @@ use Rattle.definitions.specs.declared.Order.the-variants.{Constant, Sum, Differ
 use Rattle.definitions.specs.Limits.{cellCount, modulus}
 use Rattle.definitions.specs.Answers.{kindOf}
 use Rattle.definitions.specs.Machine.{WellFormed, ThreeCells}
-use Rattle.definitions.specs.Bytes.{mostGroups, numberLimit, numberBytes, numbersBytes, operandsOf, orderBytes, Number, short, bad, number, readGroups, Read, fault, found, placed, numberAt, below, kindAt, cellAt, constantAt, andThen, cellsOrders, ofKind, lastAt, restAt, targetAt, orderAt}
+use Rattle.definitions.specs.Bytes.{mostGroups, numberLimit, numberBytes, numbersBytes, operandsOf, orderBytes, Number, short, bad, number, readGroups, Read, fault, found, placed, numberAt, below, kindAt, cellAt, constantAt, andThen, cellsOrders, ofKind, lastAt, restAt, targetAt, orderAt, kindCount}
 use Rattle.laws.specs.Tests.{Lt?, less, more, lt?, Eq?, same, diff, eq?}
 use Rattle.codec.specs.Groups as groups
 use Rattle.codec.specs.Groups.{Bytes}
@@ -133,9 +133,9 @@ module _ (s : List ℕ) where
           in-limit (less h) e = let p : w ≡ v = cc in record { small = omega arith; passed = number-passed at v next (q ∙ e) }
           in-limit (more h) e = fault-found e
 
-  kind-passed : (at v next : ℕ) → kindAt s at ≡ found v next → Limited 6 at v next
+  kind-passed : (at v next : ℕ) → kindAt s at ≡ found v next → Limited kindCount at v next
   unfolding kindAt
-  kind-passed at v next e = below-passed 6 10 at v next e
+  kind-passed at v next e = below-passed kindCount 10 at v next e
 
   cell-passed : (at v next : ℕ) → cellAt s at ≡ found v next → Limited cellCount at v next
   unfolding cellAt
@@ -187,7 +187,7 @@ module _ (s : List ℕ) where
         passed = subst (λ (n : ℕ). Passed at (numberBytes k) n) w (l .passed);
       }
 
-  rest-rest : (kind d at : ℕ) (o : Order) (next : ℕ) → kind < 6 → d < cellCount → restAt s kind d at ≡ found o next → Rest (numberBytes kind ++ numberBytes d) at o next
+  rest-rest : (kind d at : ℕ) (o : Order) (next : ℕ) → kind < kindCount → d < cellCount → restAt s kind d at ≡ found o next → Rest (numberBytes kind ++ numberBytes d) at o next
   unfolding restAt
   rest-rest kind d at o next k hd e = go (eq? kind 0) e
     where
@@ -200,7 +200,7 @@ module _ (s : List ℕ) where
           let l = cell-passed at (t .value) (t .mid) (t .was) in
           earlier (numberBytes kind ++ numberBytes d) (numberBytes (t .value)) at (t .mid) o next (l .passed) (last-rest kind d (t .value) (t .mid) o next hd (l .small) (t .rest))
 
-  target-rest : (kind at : ℕ) (o : Order) (next : ℕ) → kind < 6 → targetAt s kind at ≡ found o next → Rest (numberBytes kind) at o next
+  target-rest : (kind at : ℕ) (o : Order) (next : ℕ) → kind < kindCount → targetAt s kind at ≡ found o next → Rest (numberBytes kind) at o next
   unfolding targetAt
   target-rest kind at o next k e =
       let t = through (cellAt s at) (λ d n. restAt s kind d n) o next e in
