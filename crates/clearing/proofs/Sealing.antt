@@ -21,7 +21,7 @@ use Rattle.plan.specs.Plan.{plan}
 use Rattle.clearing.specs.PlanClears.{plan-outcome}
 use Rattle.orders.specs.Runs.{steppedPlan, stepped-plan-is}
 use Rattle.clearing.specs.Amounts.{AmountsWithin}
-use Rattle.clearing.specs.SealedSheet.{sealed-is-sheet}
+use Rattle.plan.specs.SealedSheet.{sealed-is-sheet}
 
 module _ (B : Book) (lent : List ℕ) where
   -- ---- refused

@@ -14,6 +14,7 @@ use Rattle.definitions.specs.Clearing.{welfare}
 use Rattle.definitions.specs.Machine.{cell}
 use Rattle.theory.specs.SameClearing.{welfare-same}
 
+-- what keeps the sum of the welfare within 64 bits: few bids, and each price and amount within its limit
 pub record AmountsWithin (n m : ℕ) (bids : List ℤ) (s : List ℕ) : Type 0 where
   pub few-bids : n ≤ bidLimit
   pub few-pools : m ≤ poolLimit

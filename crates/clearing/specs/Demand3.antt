@@ -22,11 +22,11 @@ use Rattle.laws.specs.AcceptedBook.{accepted-sound}
 use Rattle.theory.specs.BestClearing.{best-welfare, welfare-of-best}
 use Rattle.runner.specs.Runs.{RunsAs, orders-bytes-run}
 use Rattle.plan.specs.Plan.{plan}
-use Rattle.plan.specs.List.{plan-orders, plan-length-limit}
+use Rattle.plan.specs.PlanOrders.{plan-orders, plan-length-limit}
 use Rattle.plan.specs.Asking.{asked-at-end}
 use Rattle.plan.specs.Collected.{collected-plan}
 use Rattle.clearing.specs.PlanClears.{plan-outcome}
-use Rattle.clearing.specs.SealedSheet.{sealed-is-sheet}
+use Rattle.plan.specs.SealedSheet.{sealed-is-sheet}
 
 -- One list of orders clears book A.
 pub record ClearedBy (orders : List Order) (A : Book) : Type 0 where
@@ -91,7 +91,7 @@ module _ (A : Book) (accepted : AcceptedBook A) where
         greatest-welfare = λ d f. subst (λ (z : ℤ). welfare A (d .accepted) ≤ℤ z) (sym given-welfare) (best-welfare A accepted (resultOf A (planRun plan A)) (outcome .best) d f);
       }
 
--- the same for a book of the same counts, by the list of another
+-- a book is cleared by the plan of another of the same counts
 of-equal-counts : (A B : Book) → AcceptedBook B → A .n ≡ B .n → A .m ≡ B .m → ClearedBy (plan (A .n) (A .m)) B
 of-equal-counts A B accepted n m = rw (n, m) (cleared-by-plan B accepted)
 

@@ -2,6 +2,5 @@
 pub mod Amounts
 pub mod IntegerSum
 pub mod Welfare
-pub mod SealedSheet
 pub mod PlanClears
 pub mod Demand3

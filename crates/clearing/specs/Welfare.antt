@@ -20,6 +20,7 @@ use Rattle.clearing.specs.IntegerSum.{sum-difference, sum-size}
 abbrev pub signedValue : (price quantity : ℤ) (accepted : ℕ) → ℤ
 signedValue price quantity accepted = cond (ltZ (pos 0) quantity) (price *ℤ pos accepted) (negℤ (price *ℤ pos accepted))
 
+-- that of bid i
 abbrev pub bidValue : Book → (ℕ → ℕ) → ℕ → ℤ
 bidValue B accepted i = signedValue (price B i) (quantity B i) (accepted i)
 
@@ -32,7 +33,8 @@ pub welfare-by-bid : (B : Book) (accepted : ℕ → ℕ) → welfare B accepted 
 unfolding welfare
 welfare-by-bid B accepted =
     sum-difference (B .n) (λ i. cond (purchase B i) (value B accepted i) (pos 0)) (λ i. cond (sale B i) (value B accepted i) (pos 0))
-    ∙ sumZ-ext (B .n) (λ i. cond (purchase B i) (value B accepted i) (pos 0) -ℤ cond (sale B i) (value B accepted i) (pos 0)) (bidValue B accepted) (λ i l. one-side (purchase B i) (value B accepted i))
+    ∙ sumZ-ext (B .n) (λ i. cond (purchase B i) (value B accepted i) (pos 0) -ℤ cond (sale B i) (value B accepted i) (pos 0)) (bidValue B accepted)
+    (λ i l. one-side (purchase B i) (value B accepted i))
 
 -- a bid's part
 pub value-size : (price quantity : ℤ) (accepted : ℕ) → natAbs price ≤ priceLimit → accepted ≤ quantityLimit → natAbs (signedValue price quantity accepted) ≤ priceLimit * quantityLimit

@@ -23,7 +23,8 @@ unfolding readGroups
 no-bytes zero first s at e h = absurd (e refl)
 no-bytes (suc g) first s at e h = rw (drop-of-length-le s h) refl
 
-pub a-byte : (g : ℕ) (first : Bool) (s : List ℕ) (at : ℕ) → (g ≡ 0 → ⊥) → at < length s → readGroups g first (drop at s) ≡ cond (ltb (getD s at 0) 128) (lastGroup first (getD s at 0)) (moreGroups (getD s at 0) (readGroups (g - 1) false (drop (at + 1) s)))
+pub a-byte : (g : ℕ) (first : Bool) (s : List ℕ) (at : ℕ) → (g ≡ 0 → ⊥) → at < length s
+    → readGroups g first (drop at s) ≡ cond (ltb (getD s at 0) 128) (lastGroup first (getD s at 0)) (moreGroups (getD s at 0) (readGroups (g - 1) false (drop (at + 1) s)))
 unfolding readGroups
 a-byte zero first s at e h = absurd (e refl)
 a-byte (suc g) first s at e h = rw (drop-cons s at 0 h, sub-one, add-one) refl

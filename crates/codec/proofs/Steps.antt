@@ -12,16 +12,18 @@ use Rattle.definitions.specs.Bytes.{Read, fault, found, below, andThen, numberA
 use Rattle.laws.specs.Tests.{Lt?, less, more, lt?}
 use Rattle.codec.specs.declared.ReadNumber.{ReadNumber}
 use Rattle.codec.specs.declared.ReadNumber.the-variants.{Found, Refused}
-use Rattle.codec.specs.Answer.{Answer, given, refused, answerAt, numberAnswer, limitedAnswer, answer-found, answer-refused}
+use Rattle.codec.specs.Answer.{ReadResult, given, refused, answerAt, numberAnswer, limitedAnswer, answer-found, answer-refused}
 
 -- a number refused refuses what it is part of
-pub refused-then : {A : Type 0} (place : ℕ) (r : Read ℕ) (f : ℕ → ℕ → Read A) {n : ReadNumber} {verdict : Verdict} → n ≡ Refused verdict → numberAnswer n ≡ answerAt place r → refused (refusalOf verdict) ≡ answerAt place (andThen r f)
+pub refused-then : {A : Type 0} (place : ℕ) (r : Read ℕ) (f : ℕ → ℕ → Read A) {n : ReadNumber} {verdict : Verdict} → n ≡ Refused verdict
+    → numberAnswer n ≡ answerAt place r → refused (refusalOf verdict) ≡ answerAt place (andThen r f)
 refused-then place r f {n} {verdict} q e =
     let w = answer-refused place r (refusalOf verdict) (sym (ap numberAnswer q) ∙ e) in
     rw (w .was) (ap refused (w .says))
 
 -- a number found is followed by the rest
-pub found-then : {A : Type 0} (place : ℕ) (r : Read ℕ) (f : ℕ → ℕ → Read A) {n : ReadNumber} {v next : ℕ} {x : Answer A} → n ≡ Found v next → numberAnswer n ≡ answerAt place r → x ≡ answerAt place (f v next) → x ≡ answerAt place (andThen r f)
+pub found-then : {A : Type 0} (place : ℕ) (r : Read ℕ) (f : ℕ → ℕ → Read A) {n : ReadNumber} {v next : ℕ} {x : ReadResult A} → n ≡ Found v next
+    → numberAnswer n ≡ answerAt place r → x ≡ answerAt place (f v next) → x ≡ answerAt place (andThen r f)
 found-then place r f {n} {v} {next} q e later = rw (answer-found place r v next (sym (ap numberAnswer q) ∙ e)) later
 
 -- the limit of a kind, a cell, a constant

@@ -14,33 +14,34 @@ use Rattle.codec.specs.declared.ReadNumber.the-variants as number
 use Rattle.codec.specs.declared.ReadOrder.{ReadOrder}
 use Rattle.codec.specs.declared.ReadOrder.the-variants as order
 
-pub data Answer (A : Type 0) : Type 0 where
-  given : A → (next : ℕ) → Answer A
-  refused : Refusal → Answer A
+-- what was read and the offset after it, or a refusal
+pub data ReadResult (A : Type 0) : Type 0 where
+  given : A → (next : ℕ) → ReadResult A
+  refused : Refusal → ReadResult A
 
 -- what reading an order gives, "Place: offset of the order's first byte."
-abbrev pub answerAt : {A : Type 0} → (place : ℕ) → Read A → Answer A
+abbrev pub answerAt : {A : Type 0} → (place : ℕ) → Read A → ReadResult A
 answerAt place (fault k) = refused (refuse k place)
 answerAt place (found a next) = given a next
 
 -- the cases of read_order's answer
-abbrev pub orderAnswer : ReadOrder → Answer Order
+abbrev pub orderAnswer : ReadOrder → ReadResult Order
 orderAnswer (order.Found o next) = given o next
 orderAnswer (order.Refused verdict) = refused (refusalOf verdict)
 
--- of one number's
-abbrev pub numberAnswer : ReadNumber → Answer ℕ
+-- the cases of a number's answer
+abbrev pub numberAnswer : ReadNumber → ReadResult ℕ
 numberAnswer (number.Found v next) = given v next
 numberAnswer (number.Refused verdict) = refused (refusalOf verdict)
 
--- and of its groups'
+-- the cases of what its groups give
 abbrev pub groupsAnswer : ReadGroups → Number
 groupsAnswer groups.Short = short
 groupsAnswer groups.Bad = bad
 groupsAnswer (groups.Number v bytes) = number v bytes
 
 -- a number below a limit, else a refusal
-abbrev pub limitedAnswer : (limit : ℕ) → Refusal → Answer ℕ → Answer ℕ
+abbrev pub limitedAnswer : (limit : ℕ) → Refusal → ReadResult ℕ → ReadResult ℕ
 limitedAnswer limit over (given v next) = cond (ltb v limit) (given v next) (refused over)
 limitedAnswer limit over (refused r) = refused r
 
@@ -54,6 +55,7 @@ module _ {A : Type 0} (place : ℕ) (r : Read A) where
       go (fault k) e = absurd (let z : _≡_ {A = ℕ} 0 1 = cc in omega arith)
       go (found b n) e = cc
 
+  -- the fault that was found, and that the refusal states it with its place
   pub record FaultAt (x : Refusal) : Type 0 where
     pub number : ℕ
     pub was : r ≡ fault number

@@ -11,7 +11,7 @@ use borrow.Author.Tests.{le-leb, lt-leb}
 use Rattle.definitions.specs.declared.Order.{Order}
 use Rattle.definitions.specs.Bytes.{orderBytes, ordersBytes}
 use Rattle.definitions.specs.Machine.{AllWellFormed}
-use Rattle.definitions.specs.Plan.{fitting}
+use Rattle.definitions.specs.Plan.{fitting, longestOrder}
 use Rattle.codec.specs.OrderBytes.{at-most-eight}
 
 -- ---- the bytes of orders one after another
@@ -44,7 +44,7 @@ bytes-in-parts k os =
     ∙ ap (λ (xs : List Order). length (ordersBytes xs)) (take-append-drop k os)
 
 -- 8 bytes each at most
-pub bytes-at-most : (os : List Order) → AllWellFormed os → length (ordersBytes os) ≤ 8 * length os
+pub bytes-at-most : (os : List Order) → AllWellFormed os → length (ordersBytes os) ≤ longestOrder * length os
 unfolding ordersBytes
 bytes-at-most [] w = omega arith
 bytes-at-most (o ∷ os) w = omega (arith, length-append (orderBytes o) (ordersBytes os), at-most-eight o (w .0), bytes-at-most os (w .1))
@@ -74,7 +74,7 @@ fits-at-most (o ∷ os) room = go (leb (length (orderBytes o)) room) (fits-at-mo
     go false h = omega arith
 
 -- an order that has 8 bytes at most fits in 8
-pub some-fits : (os : List Order) (at : ℕ) (d : Order) (room : ℕ) → at < length os → length (orderBytes (getD os at d)) ≤ 8 → 8 ≤ room → 0 < fitting (drop at os) room
+pub some-fits : (os : List Order) (at : ℕ) (d : Order) (room : ℕ) → at < length os → length (orderBytes (getD os at d)) ≤ longestOrder → longestOrder ≤ room → 0 < fitting (drop at os) room
 some-fits os at d room h short roomy =
     let e : fitting (drop at os) room ≡ suc (fitting (drop (suc at) os) (room - length (orderBytes (getD os at d)))) =
     ap (λ (rest : List Order). fitting rest room) (drop-cons os at d h)

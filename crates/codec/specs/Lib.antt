@@ -3,6 +3,9 @@ pub mod Answer
 pub mod Written
 pub mod Groups
 pub mod OrderBytes
+pub mod OrderReadBack
+pub mod OrderShortest
+pub mod OrderAccepted
 pub mod PlanBytes
 pub mod Writes
 pub mod Fitting

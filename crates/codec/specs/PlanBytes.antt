@@ -15,7 +15,10 @@ use Rattle.definitions.specs.Bytes.{orderBytes, ordersBytes, Read, fault, found
 use Rattle.laws.specs.Tests.{Lt?, less, more, lt?}
 use Rattle.laws.specs.Refusal.{not-refused}
 use Rattle.codec.specs.Groups.{Bytes}
-use Rattle.codec.specs.OrderBytes.{bytes-append, order-bytes, at-least-three, read-written-at, order-read, only-shortest, accepted-written}
+use Rattle.codec.specs.OrderBytes.{bytes-append, order-bytes, at-least-three}
+use Rattle.codec.specs.OrderReadBack.{read-written}
+use Rattle.codec.specs.OrderShortest.{order-read, only-shortest}
+use Rattle.codec.specs.OrderAccepted.{accepted-written}
 
 pub orders-bytes : (os : List Order) → Bytes (ordersBytes os)
 unfolding ordersBytes
@@ -53,7 +56,7 @@ module _ (s : List ℕ) where
       let l : at < length s = omega (arith, at-least-three o, n, length-drop at s, ap length e) in
       let next : ℕ = at + length (orderBytes o) in
       let later : drop next s ≡ ordersBytes os = sym (drop-drop (length (orderBytes o)) at s) ∙ ap (drop (length (orderBytes o))) e ∙ drop-append-seam (orderBytes o) (ordersBytes os) in
-      parse-order s k at l o next (read-written-at s at o (ordersBytes os) (w .0) e)
+      parse-order s k at l o next (read-written s at o (ordersBytes os) (w .0) e)
       ∙ ap (oneMore o) (read-back k next os (w .1) (omega (arith, at-least-three o, n)) later)
 
 pub orders-read-back : (os : List Order) → AllWellFormed os → parse (ordersBytes os) ≡ record { orders = os; refusal = none }
@@ -68,7 +71,8 @@ module _ (s : List ℕ) where
   from-well-formed zero at = tt
   from-well-formed (suc k) at = go (lt? at (length s)) (λ n. from-well-formed k n)
     where
-      go : {t : Bool} → Lt? at (length s) t → ((n : ℕ) → AllWellFormed (parseFrom s k n .orders)) → AllWellFormed (cond t (continue at (orderAt s at) (λ next. parseFrom s k next)) (noOrders none) .orders)
+      go : {t : Bool} → Lt? at (length s) t → ((n : ℕ) → AllWellFormed (parseFrom s k n .orders))
+          → AllWellFormed (cond t (continue at (orderAt s at) (λ next. parseFrom s k next)) (noOrders none) .orders)
       go (more h) later = tt
       go (less h) later = one (orderAt s at) refl
         where
@@ -122,7 +126,7 @@ module _ (s : List ℕ) where
           let w = accepted-written s at o (ordersBytes os) e u in
           let next : ℕ = at + length (orderBytes o) in
           let later : drop next s ≡ ordersBytes os = sym (drop-drop (length (orderBytes o)) at s) ∙ ap (drop (length (orderBytes o))) e ∙ drop-append-seam (orderBytes o) (ordersBytes os) in
-          let rest : parseFrom s k next .refusal ≡ none = sym (ap (λ (p : Parsed). p .refusal) (parse-order s k at inside o next (read-written-at s at o (ordersBytes os) w e))) ∙ q in
+          let rest : parseFrom s k next .refusal ≡ none = sym (ap (λ (p : Parsed). p .refusal) (parse-order s k at inside o next (read-written s at o (ordersBytes os) w e))) ∙ q in
           (w, others next (omega (arith, at-least-three o, size)) later rest)
 
 pub accepted-only : (os : List Order) → parse (ordersBytes os) .refusal ≡ none → AllWellFormed os × (parse (ordersBytes os) .orders ≡ os)

@@ -13,11 +13,11 @@ use Rattle.definitions.specs.Machine.{runOf}
 use Rattle.definitions.specs.Calls.{sealRefusal, bidsRefusal, capacitiesRefusal, rowRefusal, firstFrom, openedResults}
 use Rattle.definitions.specs.Plan.{Plan}
 use Rattle.definitions.specs.Outcome.{planRun, clearWelfare}
-use Rattle.definitions.specs.Settle.{words, wordsFrom, digitsFrom, wholeOf, numbersOf, unreadable, refused, readable, settleInput, decimalTo, decimal, decimalZ, bidLine, flowLine, priceLine, welfareLine, bidLines, flowLines, priceLines, listing, refusedText, unreadableText, inputText, settleText}
+use Rattle.definitions.specs.Settle.{words, wordsFrom, digitsFrom, wholeOf, wordNumbers, unreadable, refused, readable, settleInput, decimalTo, decimal, decimalZ, bidLine, flowLine, priceLine, welfareLine, bidLines, flowLines, priceLines, listing, refusedText, unreadableText, inputText, settleText}
 
 -- example 2 is read
 pub read-two : settleInput textTwo ≡ readable bookTwo
-unfolding textTwo bookTwo settleInput words wordsFrom wholeOf digitsFrom numbersOf
+unfolding textTwo bookTwo settleInput words wordsFrom wholeOf digitsFrom wordNumbers
 read-two = refl
 
 -- blanks around and -0; then texts in this order: `007 9 x`, `999 1 x`, `999 1x`, `999 -1`, `999`, ``, `0 1 5 x`, `0 1`, `0 1 2147483648`, `0 1 --3`, `0 1 +3`, `0 1 -`, `0 1(tab)0`, `0 1 -2147483648`
@@ -54,7 +54,7 @@ inputs :
     ∷ unreadable
     ∷ readable (book 0 1 [] (negℤ (pos 2147483648) ∷ []))
     ∷ []
-unfolding settleInput words wordsFrom wholeOf digitsFrom numbersOf
+unfolding settleInput words wordsFrom wholeOf digitsFrom wordNumbers
 inputs = refl
 
 -- the listing of example 2, in full
@@ -84,5 +84,5 @@ printed :
     ∷ (114 ∷ 101 ∷ 102 ∷ 117 ∷ 115 ∷ 101 ∷ 100 ∷ 32 ∷ 49 ∷ 32 ∷ 48 ∷ 10 ∷ [])
     ∷ (117 ∷ 110 ∷ 114 ∷ 101 ∷ 97 ∷ 100 ∷ 97 ∷ 98 ∷ 108 ∷ 101 ∷ 10 ∷ [])
     ∷ []
-unfolding six settleText inputText settleInput words wordsFrom wholeOf digitsFrom numbersOf sealRefusal bidsRefusal capacitiesRefusal rowRefusal firstFrom openedResults planRun runOf sealedSheet clearWelfare welfare sumZ listing bidLines flowLines priceLines joinTo bidLine flowLine priceLine welfareLine refusedText unreadableText decimalZ decimal decimalTo
+unfolding six settleText inputText settleInput words wordsFrom wholeOf digitsFrom wordNumbers sealRefusal bidsRefusal capacitiesRefusal rowRefusal firstFrom openedResults planRun runOf sealedSheet clearWelfare welfare sumZ listing bidLines flowLines priceLines joinTo bidLine flowLine priceLine welfareLine refusedText unreadableText decimalZ decimal decimalTo
 printed = refl

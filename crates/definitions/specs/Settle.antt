@@ -76,9 +76,9 @@ prepend (whole z) noNumbers = noNumbers
 prepend (whole z) (numbers zs) = numbers (z ∷ zs)
 
 -- "exactly the whole numbers called for": each word is one
-unfoldable pub numbersOf : List (List ℕ) → Numbers
-numbersOf [] = numbers []
-numbersOf (word ∷ rest) = prepend (wholeOf word) (numbersOf rest)
+unfoldable pub wordNumbers : List (List ℕ) → Numbers
+wordNumbers [] = numbers []
+wordNumbers (word ∷ rest) = prepend (wholeOf word) (wordNumbers rest)
 
 -- what a text is: unreadable, refused, or a book to clear
 pub data Input : Type 0 where
@@ -96,7 +96,7 @@ tables n m (numbers zs) =
 
 -- "1 and 2 are tested once n and m are both read, before the rest is looked at"
 abbrev pub afterCounts : (n m : ℕ) → Refusal → List (List ℕ) → Input
-afterCounts n m none rest = tables n m (numbersOf rest)
+afterCounts n m none rest = tables n m (wordNumbers rest)
 afterCounts n m (refuse number place) rest = refused (refuse number place)
 
 -- "n and m not below 0"

@@ -17,7 +17,7 @@ use Rattle.definitions.specs.Calls.{AcceptedBook, bidRefusal, sealRefusal, bids
 use Rattle.laws.specs.Extremes.{minTo}
 use Rattle.laws.specs.AcceptedBook.{bidsOf, bookOf}
 use Rattle.theory.specs.Subsets.{member}
-use Rattle.theory.specs.ClosedForms.{subsetSum, demand, cut, ahead, reach, rank, usedAmount, acceptedAmount}
+use Rattle.theory.specs.ClosedForms.{subsetSum, demand, cut, sizeBefore, sizeWith, rank, usedAmount, acceptedAmount}
 use Rattle.theory.specs.SameClearing.{welfare-same}
 use Rattle.theory.specs.PoolPrice.{pool-price-same}
 use Rattle.theory.specs.ClosedBest.{closed-accepted}
@@ -54,7 +54,9 @@ cleared B amounts flows prices total h a f p w = record {
   exists = best-exists B h;
   accepts = λ c b. listed-same (B .n) (c .accepted) (λ i. acceptedAmount B i) (closed-accepted B h c b) ∙ a;
   ships = λ c b q. f c q (closed-accepted B h c b);
-  priced = λ c b. listed-same (B .m) (poolPrice B (c .accepted)) (poolPrice B (λ i. acceptedAmount B i)) (λ k l. pool-price-same B (c .accepted) (λ i. acceptedAmount B i) k (closed-accepted B h c b)) ∙ p;
+  priced =
+      λ c b. listed-same (B .m) (poolPrice B (c .accepted)) (poolPrice B (λ i. acceptedAmount B i)) (λ k l. pool-price-same B (c .accepted) (λ i. acceptedAmount B i) k (closed-accepted B h c b))
+      ∙ p;
   worth = λ c b. welfare-same B (c .accepted) (λ i. acceptedAmount B i) (closed-accepted B h c b) ∙ w;
 }
 
@@ -148,7 +150,7 @@ edges-hold = record {
 }
 
 pub proved-examples : ProvedExamples
-unfolding bookOne bookTwo bookThree bookFour bookFive bookSix bookSeven listed sealRefusal bidsRefusal capacitiesRefusal rowRefusal firstFrom member subsetSum demand cut ahead reach rank usedAmount acceptedAmount before sumTo minTo poolPrice highest welfare sumZ orderBytes numberBytes groups
+unfolding bookOne bookTwo bookThree bookFour bookFive bookSix bookSeven listed sealRefusal bidsRefusal capacitiesRefusal rowRefusal firstFrom member subsetSum demand cut sizeBefore sizeWith rank usedAmount acceptedAmount before sumTo minTo poolPrice highest welfare sumZ orderBytes numberBytes groups
 proved-examples = record {
   one = cleared bookOne _ _ _ _ refl refl (λ c q e. no-line c (q .feasible .flows 0 0 (omega arith) (omega arith))) refl refl;
   two = cleared bookTwo _ _ _ _ refl refl (λ c q e. two-flows c q (e 0 (omega arith))) refl refl;

@@ -10,7 +10,7 @@ use Rattle.definitions.specs.Clearing.{Clearing, Permitted, welfare, missing, p
 use Rattle.definitions.specs.Calls.{sealRefusal, bidsRefusal, capacitiesRefusal, rowRefusal, firstFrom}
 use Rattle.laws.specs.Extremes.{minTo}
 use Rattle.theory.specs.Subsets.{member}
-use Rattle.theory.specs.ClosedForms.{subsetSum, demand, cut, ahead, reach, rank, usedAmount, acceptedAmount}
+use Rattle.theory.specs.ClosedForms.{subsetSum, demand, cut, sizeBefore, sizeWith, rank, usedAmount, acceptedAmount}
 use Rattle.examples.specs.Examples.{listed, Cleared, cleared}
 
 -- "m 4, lines 1 to 2, 2 to 4, 1 to 3 and 3 to 4 carry 4, else 0; (1,10,−4), (2,20,−4), (4,30,8)"
@@ -44,5 +44,5 @@ rerouted-flows c q x y =
 -- "accepted are 4, 4, 8"
 pub rerouted : Cleared bookRerouted (4 ∷ 4 ∷ 8 ∷ []) (0 ∷ 0 ∷ 4 ∷ 0 ∷ 0 ∷ 0 ∷ 0 ∷ 4 ∷ 0 ∷ 0 ∷ 0 ∷ 4 ∷ 0 ∷ 0 ∷ 0 ∷ 0 ∷ [])
     (present (pos 10) ∷ present (pos 20) ∷ missing ∷ missing ∷ []) (pos 120)
-unfolding bookRerouted listed sealRefusal bidsRefusal capacitiesRefusal rowRefusal firstFrom member subsetSum demand cut ahead reach rank usedAmount acceptedAmount before sumTo minTo poolPrice highest welfare sumZ
+unfolding bookRerouted listed sealRefusal bidsRefusal capacitiesRefusal rowRefusal firstFrom member subsetSum demand cut sizeBefore sizeWith rank usedAmount acceptedAmount before sumTo minTo poolPrice highest welfare sumZ
 rerouted = cleared bookRerouted _ _ _ _ refl refl (λ c q e. rerouted-flows c q (e 0 (omega arith)) (e 2 (omega arith))) refl refl

@@ -8,7 +8,7 @@ use lib.ListN.{length}
 use borrow.Author.Tests.{eqb-true, eq-eqb, le-ltb}
 use Rattle.definitions.specs.Answers.{Refusal, none, refuse, first, unless, isNone}
 use Rattle.definitions.specs.Calls.{countsRefusal, lengthRefusal}
-use Rattle.definitions.specs.Plan.{Plan, positionRefusal, roomRefusal, askRefusal, writeRefusal, over, bytesWritten, writtenCounts, lowestFirst, countBytes, totalRefusal, totalSlice, bytesRefusal, bytesSlice, countsSlice}
+use Rattle.definitions.specs.Plan.{Plan, positionRefusal, roomRefusal, askRefusal, writeRefusal, over, bytesWritten, writtenCounts, lowestFirst, countBytes, totalRefusal, totalSlice, bytesRefusal, bytesSlice, countsSlice, longestOrder, numberSize, countsSize}
 use Rattle.laws.specs.Refusal.{not-refused, test-passed, first-left, first-right, unless-refused}
 
 -- ---- refusals in turn
@@ -28,43 +28,45 @@ stated-length a b e = eqb-true a b (test-passed (eqb a b) 3 0 e)
 
 -- ---- the total
 
-pub total-passes : (n m out : ℕ) → countsRefusal n m ≡ none → out ≡ 8 → totalRefusal n m out ≡ none
+pub total-passes : (n m out : ℕ) → countsRefusal n m ≡ none → out ≡ numberSize → totalRefusal n m out ≡ none
 unfolding totalRefusal
-total-passes n m out counts stated = rw (counts, eq-eqb out 8 stated) refl
+total-passes n m out counts stated = rw (counts, eq-eqb out numberSize stated) refl
 
 module _ (P : Plan) (n m : ℕ) (out : List ℕ) where
   pub total-counts : totalRefusal n m (length out) ≡ none → countsRefusal n m ≡ none
   unfolding totalRefusal
-  total-counts e = first-left (countsRefusal n m) (lengthRefusal (eqb (length out) 8)) e
+  total-counts e = first-left (countsRefusal n m) (lengthRefusal (eqb (length out) numberSize)) e
 
-  pub total-length : totalRefusal n m (length out) ≡ none → length out ≡ 8
+  pub total-length : totalRefusal n m (length out) ≡ none → length out ≡ numberSize
   unfolding totalRefusal
-  total-length e = stated-length (length out) 8 (first-right (countsRefusal n m) (lengthRefusal (eqb (length out) 8)) e)
+  total-length e = stated-length (length out) numberSize (first-right (countsRefusal n m) (lengthRefusal (eqb (length out) numberSize)) e)
 
-  pub total-given : totalRefusal n m (length out) ≡ none → totalSlice P n m out ≡ lowestFirst 8 (length (P n m))
+  pub total-given : totalRefusal n m (length out) ≡ none → totalSlice P n m out ≡ lowestFirst numberSize (length (P n m))
   unfolding totalSlice
-  total-given e = ap (λ (r : Refusal). unless r (lowestFirst 8 (length (P n m))) out) e
+  total-given e = ap (λ (r : Refusal). unless r (lowestFirst numberSize (length (P n m))) out) e
 
   pub total-kept : isNone (totalRefusal n m (length out)) ≡ false → totalSlice P n m out ≡ out
   unfolding totalSlice
-  total-kept e = unless-refused (totalRefusal n m (length out)) (lowestFirst 8 (length (P n m))) out e
+  total-kept e = unless-refused (totalRefusal n m (length out)) (lowestFirst numberSize (length (P n m))) out e
 
 -- ---- the bytes
 
-pub bytes-pass : (P : Plan) (n m at room out : ℕ) → countsRefusal n m ≡ none → out ≡ 24 → at ≤ length (P n m) → 8 ≤ room → bytesRefusal P n m at room out ≡ none
+pub bytes-pass : (P : Plan) (n m at room out : ℕ) → countsRefusal n m ≡ none → out ≡ countsSize → at ≤ length (P n m) → longestOrder ≤ room → bytesRefusal P n m at room out ≡ none
 unfolding bytesRefusal
-bytes-pass P n m at room out counts stated within roomy = rw (counts, eq-eqb out 24 stated, le-ltb (length (P n m)) at within, le-ltb room 8 roomy) refl
+bytes-pass P n m at room out counts stated within roomy = rw (counts, eq-eqb out countsSize stated, le-ltb (length (P n m)) at within, le-ltb room longestOrder roomy) refl
 
 module _ (P : Plan) (n m at : ℕ) (bytes out : List ℕ) where
-  pub bytes-length : bytesRefusal P n m at (length bytes) (length out) ≡ none → length out ≡ 24
+  pub bytes-length : bytesRefusal P n m at (length bytes) (length out) ≡ none → length out ≡ countsSize
   unfolding bytesRefusal
-  bytes-length e = stated-length (length out) 24 (first-left (lengthRefusal (eqb (length out) 24)) (first (positionRefusal (P n m) at) (roomRefusal (length bytes))) (first-right (countsRefusal n m) _ e))
+  bytes-length e =
+      stated-length (length out) countsSize
+      (first-left (lengthRefusal (eqb (length out) countsSize)) (first (positionRefusal (P n m) at) (roomRefusal (length bytes))) (first-right (countsRefusal n m) _ e))
 
   pub bytes-writing : bytesRefusal P n m at (length bytes) (length out) ≡ none → writeRefusal P n m at (length bytes) ≡ none
   unfolding bytesRefusal writeRefusal askRefusal
   bytes-writing e =
       let counts : Refusal = countsRefusal n m in
-      let stated : Refusal = lengthRefusal (eqb (length out) 24) in
+      let stated : Refusal = lengthRefusal (eqb (length out) countsSize) in
       let position : Refusal = positionRefusal (P n m) at in
       let room : Refusal = roomRefusal (length bytes) in
       passed-between counts stated position room

@@ -11,10 +11,10 @@ use Rattle.definitions.specs.Limits.{bidLimit, poolLimit}
 use Rattle.definitions.specs.Answers.{none}
 use Rattle.definitions.specs.Calls.{countsRefusal}
 use Rattle.definitions.specs.Outcome.{orderLimit}
-use Rattle.definitions.specs.Plan.{lowestFirst, Written, writtenCounts, countBytes, totalRefusal, totalSlice, bytesRefusal, countsSlice}
+use Rattle.definitions.specs.Plan.{lowestFirst, Written, writtenCounts, countBytes, totalRefusal, totalSlice, bytesRefusal, countsSlice, longestOrder, numberSize}
 use Rattle.laws.specs.Sizes.{counted}
 use Rattle.plan.specs.Plan.{plan}
-use Rattle.plan.specs.List.{plan-length-limit}
+use Rattle.plan.specs.PlanOrders.{plan-length-limit}
 use Rattle.orders.specs.Calls.{write-within}
 use Rattle.walk.specs.Sequence.{orders-within, bytes-within}
 use Rattle.host.specs.Calls.{total-counts, total-given, bytes-writing, counts-given}
@@ -46,12 +46,12 @@ limit-grows n m a b h k =
     let pools : m + 1 ≤ b + 1 = omega arith in
     add-le-add (mul-le-mul h (add-le-add (mul-le-mul-left _ h) (mul-le-mul-left _ (pow-le-pow-left pools _)))) (le-refl _)
 
-greatest-held : 8 * orderLimit bidLimit poolLimit < bytesLimit 8
+greatest-held : longestOrder * orderLimit bidLimit poolLimit < bytesLimit numberSize
 unfolding bytesLimit
 greatest-held = omega arith
 
 -- so 8 bytes hold the plan's length, and the length of its bytes
-plan-held : (n m v : ℕ) → countsRefusal n m ≡ none → v ≤ 8 * length (plan n m) → v < bytesLimit 8
+plan-held : (n m v : ℕ) → countsRefusal n m ≡ none → v ≤ longestOrder * length (plan n m) → v < bytesLimit numberSize
 plan-held n m v counts h =
     let limits = counted n m counts in
     omega (
@@ -67,36 +67,36 @@ plan-held n m v counts h =
 pub total-read-back : (n m : ℕ) (out : List ℕ) → totalRefusal n m (length out) ≡ none → held (totalSlice plan n m out) ≡ length (plan n m)
 total-read-back n m out accepted =
     ap held (total-given plan n m out accepted)
-    ∙ read-back 8 (length (plan n m)) (plan-held n m _ (total-counts plan n m out accepted) (omega arith))
+    ∙ read-back numberSize (length (plan n m)) (plan-held n m _ (total-counts plan n m out accepted) (omega arith))
 
 -- ---- the writer's three numbers
 
 -- the number that the 8 bytes from an offset on hold
 abbrev pub heldFrom : (at : ℕ) → List ℕ → ℕ
-heldFrom at bytes = held (take 8 (drop at bytes))
+heldFrom at bytes = held (take numberSize (drop at bytes))
 
 -- the three numbers that 24 bytes hold
 abbrev pub countsHeld : List ℕ → Written
-countsHeld out = record { bytes = heldFrom 0 out; orders = heldFrom 8 out; next = heldFrom 16 out }
+countsHeld out = record { bytes = heldFrom 0 out; orders = heldFrom numberSize out; next = heldFrom (2 * numberSize) out }
 
-three-parts : (x y z : List ℕ) → length x ≡ 8 → length y ≡ 8 → length z ≡ 8
-    → (take 8 (drop 0 (x ++ (y ++ z))) ≡ x) × (take 8 (drop 8 (x ++ (y ++ z))) ≡ y) × (take 8 (drop 16 (x ++ (y ++ z))) ≡ z)
+three-parts : (x y z : List ℕ) → length x ≡ numberSize → length y ≡ numberSize → length z ≡ numberSize
+    → (take numberSize (drop 0 (x ++ (y ++ z))) ≡ x) × (take numberSize (drop numberSize (x ++ (y ++ z))) ≡ y) × (take numberSize (drop (2 * numberSize) (x ++ (y ++ z))) ≡ z)
 three-parts x y z a b c =
-    let second : drop 8 (x ++ (y ++ z)) ≡ y ++ z = drop-at x (y ++ z) 8 a in
-    let third : drop 16 (x ++ (y ++ z)) ≡ z = sym (drop-drop 8 8 (x ++ (y ++ z))) ∙ ap (drop 8) second ∙ drop-at y z 8 b in
-    (take-at x (y ++ z) 8 a, ap (take 8) second ∙ take-at y z 8 b, ap (take 8) third ∙ take-all 8 z (omega arith))
+    let second : drop numberSize (x ++ (y ++ z)) ≡ y ++ z = drop-at x (y ++ z) numberSize a in
+    let third : drop (2 * numberSize) (x ++ (y ++ z)) ≡ z = sym (drop-drop numberSize numberSize (x ++ (y ++ z))) ∙ ap (drop numberSize) second ∙ drop-at y z numberSize b in
+    (take-at x (y ++ z) numberSize a, ap (take numberSize) second ∙ take-at y z numberSize b, ap (take numberSize) third ∙ take-all numberSize z (omega arith))
 
 by-parts : (x y : Written) → x .bytes ≡ y .bytes → x .orders ≡ y .orders → x .next ≡ y .next → x ≡ y
 by-parts x y p q r = rw (sym p, sym q, sym r) refl
 
-three-held : (w : Written) → w .bytes < bytesLimit 8 → w .orders < bytesLimit 8 → w .next < bytesLimit 8 → countsHeld (countBytes w) ≡ w
+three-held : (w : Written) → w .bytes < bytesLimit numberSize → w .orders < bytesLimit numberSize → w .next < bytesLimit numberSize → countsHeld (countBytes w) ≡ w
 three-held w a b c =
-    let long : (v : ℕ) → length (lowestFirst 8 v) ≡ 8 = lowest-length 8 in
-    let parts = three-parts (lowestFirst 8 (w .bytes)) (lowestFirst 8 (w .orders)) (lowestFirst 8 (w .next)) (long _) (long _) (long _) in
+    let long : (v : ℕ) → length (lowestFirst numberSize v) ≡ numberSize = lowest-length numberSize in
+    let parts = three-parts (lowestFirst numberSize (w .bytes)) (lowestFirst numberSize (w .orders)) (lowestFirst numberSize (w .next)) (long _) (long _) (long _) in
     by-parts (countsHeld (countBytes w)) w
-    (ap held (parts .0) ∙ read-back 8 (w .bytes) a)
-    (ap held (parts .1) ∙ read-back 8 (w .orders) b)
-    (ap held (parts .2) ∙ read-back 8 (w .next) c)
+    (ap held (parts .0) ∙ read-back numberSize (w .bytes) a)
+    (ap held (parts .1) ∙ read-back numberSize (w .orders) b)
+    (ap held (parts .2) ∙ read-back numberSize (w .next) c)
 
 -- the slice of an accepted call for the plan's bytes holds the counts of bytes and orders and the next position
 pub counts-read-back : (n m at : ℕ) (bytes out : List ℕ) → bytesRefusal plan n m at (length bytes) (length out) ≡ none

@@ -7,7 +7,7 @@ use lib.ListN.{length}
 use Rattle.definitions.specs.Limits.{bidLimit, poolLimit}
 use Rattle.definitions.specs.Answers.{Refusal, none, refuse, placeOf, first}
 use Rattle.definitions.specs.Calls.{poolsRefusal, countsRefusal, lengthRefusal}
-use Rattle.definitions.specs.Plan.{Plan, positionRefusal, roomRefusal, totalRefusal, bytesRefusal}
+use Rattle.definitions.specs.Plan.{Plan, positionRefusal, roomRefusal, totalRefusal, bytesRefusal, longestOrder, numberSize, countsSize}
 
 -- one of two refusals, and the first of two
 either-place : (t : Bool) (r q : Refusal) → placeOf r ≡ 0 → placeOf q ≡ 0 → placeOf (cond t r q) ≡ 0
@@ -26,11 +26,11 @@ length-place asStated = either-place asStated none (refuse 3 0) refl refl
 
 pub total-place : (n m out : ℕ) → placeOf (totalRefusal n m out) ≡ 0
 unfolding totalRefusal
-total-place n m out = first-place (countsRefusal n m) _ (counts-place n m) (length-place (eqb out 8))
+total-place n m out = first-place (countsRefusal n m) _ (counts-place n m) (length-place (eqb out numberSize))
 
 pub bytes-place : (plan : Plan) (n m at room out : ℕ) → placeOf (bytesRefusal plan n m at room out) ≡ 0
 unfolding bytesRefusal
 bytes-place plan n m at room out =
     first-place (countsRefusal n m) _ (counts-place n m)
-    (first-place (lengthRefusal (eqb out 24)) _ (length-place (eqb out 24))
-    (first-place (positionRefusal (plan n m) at) (roomRefusal room) (either-place (ltb (length (plan n m)) at) (refuse 13 0) none refl refl) (either-place (ltb room 8) (refuse 14 0) none refl refl)))
+    (first-place (lengthRefusal (eqb out countsSize)) _ (length-place (eqb out countsSize))
+    (first-place (positionRefusal (plan n m) at) (roomRefusal room) (either-place (ltb (length (plan n m)) at) (refuse 13 0) none refl refl) (either-place (ltb room longestOrder) (refuse 14 0) none refl refl)))

@@ -11,7 +11,7 @@ use Rattle.definitions.specs.Answers.{none, numberOf}
 use Rattle.definitions.specs.Bytes.{ordersBytes}
 use Rattle.definitions.specs.Calls.{countsRefusal}
 use Rattle.definitions.specs.Machine.{IsSheet}
-use Rattle.definitions.specs.Plan.{Plan, Written, writeRefusal, writeCounts, writeSlice, totalSlice, bytesRefusal, bytesSlice, countsSlice}
+use Rattle.definitions.specs.Plan.{Plan, Written, writeRefusal, writeCounts, writeSlice, totalSlice, bytesRefusal, bytesSlice, countsSlice, longestOrder, numberSize, countsSize}
 use Rattle.plan.specs.Plan.{plan}
 use Rattle.walk.specs.Walk.{Reply, goesOn, Walk, sentBefore, stopAt, afterCall, walk, replyOf, writerReply, Roomy}
 use Rattle.orders.specs.Calls.{counts-accepted, slice-accepted}
@@ -26,8 +26,8 @@ pub record Lent : Type 0 where
 
 -- 8 bytes at least, and 24
 pub record RightLengths (lent : Lent) : Type 0 where
-  pub room : 8 ≤ length (lent .bytes)
-  pub numbers : length (lent .out) ≡ 24
+  pub room : longestOrder ≤ length (lent .bytes)
+  pub numbers : length (lent .out) ≡ countsSize
 
 -- every call's slices have these lengths
 abbrev pub AllRight : List Lent → Type 0
@@ -50,7 +50,7 @@ pub record WholeWalk (n m : ℕ) (w : Walk) : Type 0 where
   -- the runner accepts them on every sheet and runs the plan
   pub runs : (sheet : List ℕ) → IsSheet sheet → PlanRun n m sheet (w .sent)
   -- the position is the total, which the 8 bytes of `plan_total` hold
-  pub total : (out : List ℕ) → length out ≡ 8 → w .position ≡ held (totalSlice plan n m out)
+  pub total : (out : List ℕ) → length out ≡ numberSize → w .position ≡ held (totalSlice plan n m out)
   -- one more call gives nothing, and the slice for the plan's bytes holds what it held
   pub nothing-more : (lent : Lent) → RightLengths lent
       → hostReply plan n m (w .position) lent ≡ record { refusal = 0; bytes = []; orders = 0; next = w .position }
@@ -103,7 +103,7 @@ module _ (n m : ℕ) (counts : countsRefusal n m ≡ none) where
 
   -- ---- the whole walk
 
-  total-held : (out : List ℕ) → length out ≡ 8 → held (totalSlice plan n m out) ≡ length (plan n m)
+  total-held : (out : List ℕ) → length out ≡ numberSize → held (totalSlice plan n m out) ≡ length (plan n m)
   total-held out stated = total-read-back n m out (total-passes n m (length out) counts stated)
 
   module _ (lents : List Lent) (right : AllRight lents) where
@@ -138,7 +138,7 @@ module _ (n m : ℕ) (counts : countsRefusal n m ≡ none) where
         whole (ap (λ (w : Walk). w .position) same ∙ there)
 
     -- a walk that has come to the total
-    pub host-walk-to-total : (out : List ℕ) → length out ≡ 8 → walk (hostReply plan n m) lents 0 .position ≡ held (totalSlice plan n m out)
+    pub host-walk-to-total : (out : List ℕ) → length out ≡ numberSize → walk (hostReply plan n m) lents 0 .position ≡ held (totalSlice plan n m out)
         → WholeWalk n m (walk (hostReply plan n m) lents 0)
     host-walk-to-total out stated end = whole (end ∙ total-held out stated)
 

@@ -17,5 +17,7 @@ le-read-back f g = ap₂ leZ (toZ-ofZ f) (toZ-ofZ g)
 pub within-read-back : {w : Width} (low high : ℤ) {x : ℤ} → SFits w low → SFits w high → SFits w x → within (toZ w (ofZ w low)) (toZ w (ofZ w high)) (toZ w (ofZ w x)) ≡ within low high x
 within-read-back low high f g h = ap₂ _&&_ (le-read-back f h) (le-read-back h g)
 
-pub bid-read-back : {r : Refusal} (w : Width) (m : ℕ) (pool price quantity : ℤ) (place : ℕ) → SFits w pool → SFits w price → SFits w quantity → r ≡ numbered (bidFault m (toZ w (ofZ w pool)) (toZ w (ofZ w price)) (toZ w (ofZ w quantity))) place → r ≡ numbered (bidFault m pool price quantity) place
+pub bid-read-back : {r : Refusal} (w : Width) (m : ℕ) (pool price quantity : ℤ) (place : ℕ) → SFits w pool → SFits w price → SFits w quantity
+    → r ≡ numbered (bidFault m (toZ w (ofZ w pool)) (toZ w (ofZ w price)) (toZ w (ofZ w quantity))) place
+    → r ≡ numbered (bidFault m pool price quantity) place
 bid-read-back w m pool price quantity place f g h e = cc (toZ-ofZ f, toZ-ofZ g, toZ-ofZ h)

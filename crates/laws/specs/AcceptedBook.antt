@@ -28,6 +28,7 @@ poolIndex B i = natAbs (pool B i) - 1
 abbrev pub raisedPrice : Book → ℕ → ℕ
 raisedPrice B i = natAbs (price B i +ℤ pos priceLimit)
 
+-- the counts, lengths and numbers of book B are within their limits
 pub record Sound (B : Book) : Type 0 where
   pub bids : B .n ≤ bidLimit
   pub pools-positive : 0 < B .m

@@ -10,4 +10,3 @@ pub mod Verdicts
 pub mod Search
 pub mod Sizes
 pub mod AcceptedBook
-pub mod Run

@@ -57,32 +57,32 @@ unless-refused (refuse k x) given before e = refl
 
 -- ---- a loop over an index
 
-pub from-end : (i : ℕ) (f : ℕ → Refusal) → firstFrom i 0 f ≡ none
+pub first-from-end : (i : ℕ) (f : ℕ → Refusal) → firstFrom i 0 f ≡ none
 unfolding firstFrom
-from-end i f = refl
+first-from-end i f = refl
 
 -- one turn, at the code's i + 1
-pub from-next : (i k : ℕ) (f : ℕ → Refusal) → firstFrom i (suc k) f ≡ first (f i) (firstFrom (i + 1) k f)
+pub first-from-next : (i k : ℕ) (f : ℕ → Refusal) → firstFrom i (suc k) f ≡ first (f i) (firstFrom (i + 1) k f)
 unfolding firstFrom
-from-next i k f = rw (add-one i) refl
+first-from-next i k f = rw (add-one i) refl
 
 -- nothing refused at i: the search goes on; a refusal at i is the answer
-pub from-passed : (i k : ℕ) (f : ℕ → Refusal) → f i ≡ none → firstFrom i (suc k) f ≡ firstFrom (i + 1) k f
-from-passed i k f e = from-next i k f ∙ ap (λ (r : Refusal). first r (firstFrom (i + 1) k f)) e
+pub first-from-passed : (i k : ℕ) (f : ℕ → Refusal) → f i ≡ none → firstFrom i (suc k) f ≡ firstFrom (i + 1) k f
+first-from-passed i k f e = first-from-next i k f ∙ ap (λ (r : Refusal). first r (firstFrom (i + 1) k f)) e
 
 -- no refusal among k: none at each
-pub from-each : (i k : ℕ) (f : ℕ → Refusal) → firstFrom i k f ≡ none → (j : ℕ) → j < k → f (i + j) ≡ none
+pub first-from-each : (i k : ℕ) (f : ℕ → Refusal) → firstFrom i k f ≡ none → (j : ℕ) → j < k → f (i + j) ≡ none
 unfolding firstFrom
-from-each i zero f e j l = absurd (omega arith)
-from-each i (suc k) f e zero l = rw (add-zero i) (first-left (f i) (firstFrom (suc i) k f) e)
-from-each i (suc k) f e (suc j) l =
+first-from-each i zero f e j l = absurd (omega arith)
+first-from-each i (suc k) f e zero l = rw (add-zero i) (first-left (f i) (firstFrom (suc i) k f) e)
+first-from-each i (suc k) f e (suc j) l =
     let h : i + suc j ≡ suc i + j = omega arith in
-    rw h (from-each (suc i) k f (first-right (f i) (firstFrom (suc i) k f) e) j (omega arith))
+    rw h (first-from-each (suc i) k f (first-right (f i) (firstFrom (suc i) k f) e) j (omega arith))
 
 pub all-none : (k : ℕ) (f : ℕ → Refusal) → firstFrom 0 k f ≡ none → (j : ℕ) → j < k → f j ≡ none
-all-none k f e j l = rw (zero-add j) at (from-each 0 k f e j l)
+all-none k f e j l = rw (zero-add j) at (first-from-each 0 k f e j l)
 
--- and back
+-- none at each of k: no refusal among them
 pub each-from : (i k : ℕ) (f : ℕ → Refusal) → ((j : ℕ) → j < k → f (i + j) ≡ none) → firstFrom i k f ≡ none
 unfolding firstFrom
 each-from i zero f h = refl

@@ -6,7 +6,7 @@ use native.Mathlib.Omega.{arith}
 use borrow.Author.Tests.{not-true, not-false}
 use Rattle.definitions.specs.Answers.{Refusal, none, first, isNone}
 use Rattle.definitions.specs.Calls.{firstFrom}
-use Rattle.laws.specs.Refusal.{from-end, from-next, from-passed, first-refused, is-none}
+use Rattle.laws.specs.Refusal.{first-from-end, first-from-next, first-from-passed, first-refused, is-none}
 
 -- ---- `if !is_accepted(..)`: the judge's verdict states `stated`, and t is what `is_accepted` says of it
 
@@ -34,10 +34,10 @@ module _ (n : ℕ) (f : ℕ → Refusal) where
   one-left i h = ap (λ (k : ℕ). firstFrom i k f) (let e : n - i ≡ suc (n - (i + 1)) = omega arith in e)
 
   pub search-passes : (i : ℕ) → i < n → f i ≡ none → firstFrom i (n - i) f ≡ firstFrom (i + 1) (n - (i + 1)) f
-  search-passes i h e = one-left i h ∙ from-passed i (n - (i + 1)) f e
+  search-passes i h e = one-left i h ∙ first-from-passed i (n - (i + 1)) f e
 
   pub search-stops : (i : ℕ) → i < n → isNone (f i) ≡ false → firstFrom i (n - i) f ≡ f i
-  search-stops i h e = one-left i h ∙ from-next i (n - (i + 1)) f ∙ first-refused (f i) (firstFrom (i + 1) (n - (i + 1)) f) e
+  search-stops i h e = one-left i h ∙ first-from-next i (n - (i + 1)) f ∙ first-refused (f i) (firstFrom (i + 1) (n - (i + 1)) f) e
 
   pub search-ends : (i : ℕ) → n ≤ i → firstFrom i (n - i) f ≡ none
-  search-ends i h = ap (λ (k : ℕ). firstFrom i k f) (let e : n - i ≡ 0 = omega arith in e) ∙ from-end i f
+  search-ends i h = ap (λ (k : ℕ). firstFrom i k f) (let e : n - i ≡ 0 = omega arith in e) ∙ first-from-end i f

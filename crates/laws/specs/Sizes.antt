@@ -13,6 +13,7 @@ use Rattle.definitions.specs.Calls.{poolsRefusal, countsRefusal, lengthRefusal,
 use Rattle.laws.specs.Tests.{and-left, and-right}
 use Rattle.laws.specs.Refusal.{not-refused, test-passed, first-left, first-right}
 
+-- what a count of pools that is not refused is within
 pub record PoolCount (m : ℕ) : Type 0 where
   pub least : 1 ≤ m
   pub most : m ≤ poolLimit
@@ -25,6 +26,7 @@ pools-counted m = go (eqb m 0) (ltb poolLimit m) refl refl
     go false true p q e = not-refused e
     go false false p q e = let h : m ≡ 0 → ⊥ = eqb-false m 0 p in record { least = omega arith; most = ltb-false poolLimit m q }
 
+-- what both counts are within
 pub record Counts (n m : ℕ) : Type 0 where
   pub bids : n ≤ bidLimit
   pub pools : PoolCount m
@@ -36,6 +38,7 @@ counted n m = go (ltb bidLimit n) refl
     go true p e = not-refused e
     go false p e = record { bids = ltb-false bidLimit n p; pools = pools-counted m e }
 
+-- which lengths the tables and the sheet have
 pub record Lengths (n m bids capacities cells : ℕ) : Type 0 where
   pub bid-table : bids ≡ bidNumbers * n
   pub capacity-table : capacities ≡ m * m

@@ -8,6 +8,7 @@ use native.Mathlib.Decide.{ℕ-discrete, decLt}
 use lib.Dec.{eqb, ltb}
 use borrow.Author.Tests.{eq-eqb, ne-eqb, lt-ltb, le-ltb}
 
+-- what the test of a and b for equality says: they are the same, or they differ
 pub data Eq? (a b : ℕ) : Bool → Type 0 where
   same : a ≡ b → Eq? a b true
   diff : a ≢ b → Eq? a b false
@@ -18,6 +19,7 @@ eq? a b = elim (ℕ-discrete a b) [
   | no p ↦ subst (Eq? a b) (sym (ne-eqb a b p)) (diff p)
 ]
 
+-- what the test of a below b says: less, or not
 pub data Lt? (a b : ℕ) : Bool → Type 0 where
   less : a < b → Lt? a b true
   more : b ≤ a → Lt? a b false

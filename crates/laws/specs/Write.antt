@@ -17,8 +17,8 @@ module _ {A : Type 0} where
   one-more z d₀ d at s i v e q h k = ap (λ (l : List A). set l (at + i) v) e ∙ ap (set (paste d₀ at s i) (at + i)) q ∙ paste-suc d₀ at s i z h k ∙ ap (paste d₀ at s) (sym (add-one i))
 
   -- the last turn's end
-  pub all : (d₀ d : List A) (at : ℕ) (s : List A) (i : ℕ) → d ≡ paste d₀ at s i → i ≡ length s → d ≡ written d₀ at s
-  all d₀ d at s i e q = e ∙ ap (paste d₀ at s) q ∙ ap (λ (l : List A). take at d₀ ++ l ++ drop (at + length s) d₀) (take-length s)
+  pub all-written : (d₀ d : List A) (at : ℕ) (s : List A) (i : ℕ) → d ≡ paste d₀ at s i → i ≡ length s → d ≡ written d₀ at s
+  all-written d₀ d at s i e q = e ∙ ap (paste d₀ at s) q ∙ ap (λ (l : List A). take at d₀ ++ l ++ drop (at + length s) d₀) (take-length s)
 
   -- a write just behind a first part
   pub behind : (p r : List A) (at : ℕ) (s : List A) → length p ≡ at → written (p ++ r) at s ≡ p ++ s ++ drop (length s) r

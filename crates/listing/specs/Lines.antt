@@ -11,22 +11,25 @@ use lib.IntN.{ℤ}
 use Rattle.definitions.specs.Limits.{poolResults}
 use Rattle.definitions.specs.Arithmetic.{joinTo}
 use Rattle.definitions.specs.Settle.{decimalZ, space, newline, bidLine, flowLine, priceLine, resultAt}
-use Rattle.listing.specs.Put.{Put, nothing, then, same-bytes, room-second}
+use Rattle.listing.specs.Put.{Put, nothing, then-put, same-bytes, room-second}
 
 -- the last field of a line
 abbrev pub lastField : ℤ → List ℕ
 lastField z = space ++ (decimalZ z ++ newline)
 
--- the lines of bid i, of the flow from pool a to pool b, of all flows from pool a, of pool p's price; all counted from 0
+-- the line of bid i, counted from 0
 abbrev pub bidAt : List ℤ → ℕ → List ℕ
 bidAt results i = bidLine (i + 1) (resultAt results i)
 
+-- the line of the flow from pool a to pool b, nothing if it is 0
 abbrev pub flowAt : (n m a : ℕ) → List ℤ → ℕ → List ℕ
 flowAt n m a results b = flowLine (a + 1) (b + 1) (resultAt results (n + (a * m + b)))
 
+-- the lines of all flows from pool a
 unfoldable pub rowLines : (n m a : ℕ) → List ℤ → List ℕ
 rowLines n m a results = joinTo m (flowAt n m a results)
 
+-- the line of pool p's price
 abbrev pub priceAt : (n m : ℕ) → List ℤ → ℕ → List ℕ
 priceAt n m results p = priceLine (p + 1) (resultAt results (n + m * m + poolResults * p)) (resultAt results (n + m * m + poolResults * p + 1))
 
@@ -56,7 +59,7 @@ line-room i k line h a l = room-second (line i) a (omega (arith, lines-part i k 
 
 -- one more turn
 pub line-put : {d e f : List ℕ} {at p q : ℕ} (i : ℕ) (line : ℕ → List ℕ) → Put d at (joinTo i line) e p → Put e p (line i) f q → Put d at (joinTo (i + 1) line) f q
-line-put i line a b = rw (lines-next i line) (then a b)
+line-put i line a b = rw (lines-next i line) (then-put a b)
 
 -- the last turn's end
 pub all-lines : {d e : List ℕ} {at p : ℕ} (i k : ℕ) (line : ℕ → List ℕ) → i ≤ k → k ≤ i → Put d at (joinTo i line) e p → Put d at (joinTo k line) e p

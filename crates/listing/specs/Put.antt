@@ -1,4 +1,4 @@
--- A piece of text stored in a slice from a position on, and that two pieces stored one behind the other are one (`then`).
+-- A piece of text stored in a slice from a position on, and that two pieces stored one behind the other are one (`then-put`).
 use Prim.Native.Nat.{ℕ, _+_, _≤_}
 use mathlib.Core.Path.{_≡_, refl, sym, ap, _∙_, subst}
 use mathlib.Core.List.{List, [], _∷_, _++_}
@@ -22,7 +22,7 @@ nothing d at = record { behind = sym (add-zero at); stored = refl }
 pub byte : (d : List ℕ) (at x : ℕ) → Put d at (x ∷ []) (set d at x) (at + 1)
 byte d at x = record { behind = refl; stored = refl }
 
--- the same bytes, written otherwise
+-- bytes that are equal to those of a piece
 pub same-bytes : {d e : List ℕ} {at p : ℕ} {xs ys : List ℕ} → xs ≡ ys → Put d at xs e p → Put d at ys e p
 same-bytes {d} {e} {at} {p} q a = subst (λ (l : List ℕ). Put d at l e p) q a
 
@@ -30,8 +30,8 @@ pub same-room : (at n : ℕ) {xs ys : List ℕ} → xs ≡ ys → at + length xs
 same-room at n q h = subst (λ (l : List ℕ). at + length l ≤ n) q h
 
 -- a piece behind another
-pub then : {d e f : List ℕ} {at p q : ℕ} {xs ys : List ℕ} → Put d at xs e p → Put e p ys f q → Put d at (xs ++ ys) f q
-then {d} {e} {f} {at} {p} {q} {xs} {ys} a b = record {
+pub then-put : {d e f : List ℕ} {at p q : ℕ} {xs ys : List ℕ} → Put d at xs e p → Put e p ys f q → Put d at (xs ++ ys) f q
+then-put {d} {e} {f} {at} {p} {q} {xs} {ys} a b = record {
   behind = omega (arith, length-append xs ys, a .behind, b .behind);
   stored =
       b .stored
@@ -51,7 +51,7 @@ room-first xs ys at n h = omega (arith, length-append xs ys)
 pub room-second : {d e : List ℕ} {at p : ℕ} {xs : List ℕ} (ys : List ℕ) → Put d at xs e p → at + length (xs ++ ys) ≤ length d → p + length ys ≤ length e
 room-second {xs = xs} ys a h = omega (arith, length-append xs ys, length-kept a, a .behind)
 
--- the same at the start of a slice
+-- a text that is no longer than the slice has room at its start
 pub room-start : (xs : List ℕ) (n : ℕ) → length xs ≤ n → 0 + length xs ≤ n
 room-start xs n h = omega arith
 

@@ -64,6 +64,7 @@ fn size(v: i64) -> usize
     v as usize
 }
 
+// A whole number: its digits, with a minus before them if it is below 0.
 fn put_signed(out: &mut [u8], at: usize, v: i64) -> usize
     requires { ⌜ at + length (decimalZ v) ≤ length (now out) ⌝ }
     ensures { λ r. ⌜ Put (now (out .entry)) at (decimalZ v) (now (out .exit)) r ⌝ }
@@ -81,8 +82,8 @@ fn put_field(out: &mut [u8], at: usize, word: &[u8], v: usize) -> usize
     requires { ⌜ at + length (now word ++ decimal v) ≤ length (now out) ⌝ }
     ensures { λ r. ⌜ Put (now (out .entry)) at (now (word .entry) ++ decimal v) (now (out .exit)) r ⌝ }
 {
-    let digits = put_word(out, at, word);
-    put_digits(out, digits, v, Listing::DIGITS)
+    let at_digits = put_word(out, at, word);
+    put_digits(out, at_digits, v, Listing::DIGITS)
 }
 
 // The last field of a line, with the space before it and the line's end.
@@ -90,54 +91,59 @@ fn put_last(out: &mut [u8], at: usize, v: i64) -> usize
     requires { ⌜ at + length (lastField v) ≤ length (now out) ⌝ }
     ensures { λ r. ⌜ Put (now (out .entry)) at (lastField v) (now (out .exit)) r ⌝ }
 {
-    let number = put_word(out, at, b" ");
-    let end = put_signed(out, number, v);
+    let at_number = put_word(out, at, b" ");
+    let end = put_signed(out, at_number, v);
     put_word(out, end, b"\n")
 }
 
 // ---- Lines
 
+// A bid's line: its number, and its accepted amount.
 fn put_bid(out: &mut [u8], at: usize, bid: usize, accepted: i32) -> usize
     requires { ⌜ at + length (bidLine bid accepted) ≤ length (now out) ⌝ }
     ensures { λ r. ⌜ Put (now (out .entry)) at (bidLine bid accepted) (now (out .exit)) r ⌝ }
 {
-    let last = put_field(out, at, b"bid ", bid);
-    put_last(out, last, accepted as i64)
+    let at_last = put_field(out, at, b"bid ", bid);
+    put_last(out, at_last, accepted as i64)
 }
 
+// The line of a flow between two pools; a flow of 0 has none.
 fn put_flow(out: &mut [u8], at: usize, from: usize, to: usize, flow: i32) -> usize
     requires { ⌜ at + length (flowLine from to flow) ≤ length (now out) ⌝ }
     ensures { λ r. ⌜ Put (now (out .entry)) at (flowLine from to flow) (now (out .exit)) r ⌝ }
 {
     if 0 < flow {
-        let second = put_field(out, at, b"line ", from);
-        let last = put_field(out, second, b" ", to);
-        return put_last(out, last, flow as i64);
+        let at_second = put_field(out, at, b"line ", from);
+        let at_last = put_field(out, at_second, b" ", to);
+        return put_last(out, at_last, flow as i64);
     }
     at
 }
 
+// A pool's line: its price, or `none`.
 fn put_price(out: &mut [u8], at: usize, pool: usize, price: i32, presence: i32) -> usize
     requires { ⌜ at + length (priceLine pool price presence) ≤ length (now out) ⌝ }
     ensures { λ r. ⌜ Put (now (out .entry)) at (priceLine pool price presence) (now (out .exit)) r ⌝ }
 {
-    let last = put_field(out, at, b"price ", pool);
+    let at_last = put_field(out, at, b"price ", pool);
     if 0 < presence {
-        return put_last(out, last, price as i64);
+        return put_last(out, at_last, price as i64);
     }
-    put_word(out, last, b" none\n")
+    put_word(out, at_last, b" none\n")
 }
 
+// The welfare's line.
 fn put_welfare(out: &mut [u8], at: usize, w: i64) -> usize
     requires { ⌜ at + length (welfareLine w) ≤ length (now out) ⌝ }
     ensures { λ r. ⌜ Put (now (out .entry)) at (welfareLine w) (now (out .exit)) r ⌝ }
 {
-    let last = put_word(out, at, b"welfare");
-    put_last(out, last, w)
+    let at_last = put_word(out, at, b"welfare");
+    put_last(out, at_last, w)
 }
 
 // ---- The listing
 
+// The lines of all bids.
 fn put_bids(out: &mut [u8], at: usize, n: usize, results: &[i32]) -> usize
     requires { ⌜ (n ≤ length (now results)) × (at + length (bidLines n (now results)) ≤ length (now out)) ⌝ }
     ensures { λ r. ⌜ Put (now (out .entry)) at (bidLines n (now (results .entry))) (now (out .exit)) r ⌝ }
@@ -167,6 +173,7 @@ fn put_row(out: &mut [u8], at: usize, n: usize, m: usize, a: usize, results: &[i
     end
 }
 
+// The lines of all flows, by rows.
 fn put_flows(out: &mut [u8], at: usize, n: usize, m: usize, results: &[i32]) -> usize
     requires { ⌜ (n + m * m ≤ length (now results)) × (at + length (flowLines n m (now results)) ≤ length (now out)) ⌝ }
     ensures { λ r. ⌜ Put (now (out .entry)) at (flowLines n m (now (results .entry))) (now (out .exit)) r ⌝ }
@@ -180,6 +187,7 @@ fn put_flows(out: &mut [u8], at: usize, n: usize, m: usize, results: &[i32]) -> 
     end
 }
 
+// The lines of all pools.
 fn put_prices(out: &mut [u8], at: usize, n: usize, m: usize, results: &[i32]) -> usize
     requires { ⌜ (resultCount n m ≤ length (now results)) × (at + length (priceLines n m (now results)) ≤ length (now out)) ⌝ }
     ensures { λ r. ⌜ Put (now (out .entry)) at (priceLines n m (now (results .entry))) (now (out .exit)) r ⌝ }
@@ -196,23 +204,25 @@ fn put_prices(out: &mut [u8], at: usize, n: usize, m: usize, results: &[i32]) ->
     end
 }
 
+// All lines, at the start of the slice.
 fn put_listing(n: usize, m: usize, results: &[i32], welfare: i64, out: &mut [u8]) -> usize
     requires { ⌜ (length (now results) ≡ resultCount n m) × (length (listing n m (now results) welfare) ≤ length (now out)) ⌝ }
     ensures { λ r. ⌜ Put (now (out .entry)) 0 (listing n m (now (results .entry)) welfare) (now (out .exit)) r ⌝ }
 {
-    let flows = put_bids(out, 0, n, results);
-    let prices = put_flows(out, flows, n, m, results);
-    let last = put_prices(out, prices, n, m, results);
-    put_welfare(out, last, welfare)
+    let at_flows = put_bids(out, 0, n, results);
+    let at_prices = put_flows(out, at_flows, n, m, results);
+    let at_welfare = put_prices(out, at_prices, n, m, results);
+    put_welfare(out, at_welfare, welfare)
 }
 
+// A refusal's line: its number and its place.
 fn put_refused(out: &mut [u8], number: usize, place: usize) -> usize
     requires { ⌜ length (refusedText number place) ≤ length (now out) ⌝ }
     ensures { λ r. ⌜ Put (now (out .entry)) 0 (refusedText number place) (now (out .exit)) r ⌝ }
 {
-    let second = put_field(out, 0, b"refused ", number);
-    let line_end = put_field(out, second, b" ", place);
-    put_word(out, line_end, b"\n")
+    let at_place = put_field(out, 0, b"refused ", number);
+    let end = put_field(out, at_place, b" ", place);
+    put_word(out, end, b"\n")
 }
 
 // ---- The calls
@@ -241,7 +251,7 @@ pub fn write_listing(n: usize, m: usize, results: &[i32], welfare: i64, out: &mu
     0
 }
 
-// The same of a refusal's text.
+// Writes a refusal's line at the start of the slice and gives its size; or, without room, writes nothing and gives 0.
 pub fn write_refused(number: u32, place: usize, out: &mut [u8]) -> usize
     ensures size { λ r. ⌜ r ≡ refusedSize number place (length (now (out .entry))) ⌝ }
     ensures bytes { λ _. ⌜ now (out .exit) ≡ refusedSlice number place (now (out .entry)) ⌝ }
@@ -252,7 +262,7 @@ pub fn write_refused(number: u32, place: usize, out: &mut [u8]) -> usize
     put_refused(out, number as usize, place)
 }
 
-// The same of the text that says that settle's input is unreadable.
+// Writes the line that says that settle's input is unreadable, or nothing.
 pub fn write_unreadable(out: &mut [u8]) -> usize
     ensures size { λ r. ⌜ r ≡ unreadableSize (length (now (out .entry))) ⌝ }
     ensures bytes { λ _. ⌜ now (out .exit) ≡ unreadableSlice (now (out .entry)) ⌝ }

@@ -40,6 +40,7 @@ one-store s (Equal d a b) = refl
 
 -- ---- what an order that runs has for parts
 
+-- what is known of the parts of an order that runs on s
 pub record Runs (s : List ℕ) (q : Parts) : Type 0 where
   pub cells : length s ≡ cellCount
   pub target : q .d < cellCount

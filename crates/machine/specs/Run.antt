@@ -90,7 +90,7 @@ unfolding steppedAll runOf
 stepped-all-is [] s h w = refl
 stepped-all-is (o ∷ os) s h w = ap (steppedAll os) (stepped-is s o h (w .0)) ∙ stepped-all-is os (stepOf s o) (step-sheet s o h (w .0)) (w .1)
 
--- and they keep the length of any slice
+-- some orders in turn keep the length of any slice
 pub stepped-all-length : (os : List Order) (s : List ℕ) → length (steppedAll os s) ≡ length s
 unfolding steppedAll
 stepped-all-length [] s = refl

@@ -34,7 +34,7 @@ runs s (Product d a b) = cellsRun s d a b
 runs s (Less d a b) = cellsRun s d a b
 runs s (Equal d a b) = cellsRun s d a b
 
--- and the slice has 4,096 cells
+-- an order runs on a slice: it does by its cells, and the slice has 4,096
 abbrev pub runnable : List ℕ → Order → Bool
 runnable s o = eqb (length s) cellCount && runs s o
 
@@ -63,6 +63,7 @@ stepped-append (o ∷ x) y s = stepped-append x y (stepped s o)
 -- ---- what the tests say
 
 module _ (s : List ℕ) where
+  -- an order of these cells runs: they are cells of the sheet, and those that it reads hold residues
   pub record CellsRun (d a b : ℕ) : Type 0 where
     pub cells : ThreeCells d a b
     pub first : cell s a < modulus

@@ -16,7 +16,7 @@ use Rattle.definitions.specs.Calls.{countsRefusal, lengthRefusal, cellsRefusal,
 use Rattle.laws.specs.Tests.{and-left, and-right}
 use Rattle.laws.specs.Refusal.{test-passed, first-left, first-right, is-none, unless-none, unless-refused}
 use Rattle.laws.specs.Sizes.{Counts, counted}
-use Rattle.residues.specs.Cells.{cells-below}
+use Rattle.judging.specs.Cells.{cells-below}
 
 -- the square of a pool count, for omega
 pub square : (m : ℕ) → m ≤ poolLimit → m * m ≤ poolLimit * m

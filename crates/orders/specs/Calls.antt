@@ -10,7 +10,7 @@ use Rattle.definitions.specs.Answers.{Refusal, none, refuse, first, unless, isN
 use Rattle.definitions.specs.Calls.{countsRefusal}
 use Rattle.definitions.specs.Plan as given
 use Rattle.orders.specs.declared.Written.{Written}
-use Rattle.definitions.specs.Plan.{Plan, positionRefusal, roomRefusal, askRefusal, writeRefusal, over, bytesWritten, nothingWritten, writtenCounts, writeCounts, writeSlice}
+use Rattle.definitions.specs.Plan.{Plan, positionRefusal, roomRefusal, askRefusal, writeRefusal, over, bytesWritten, nothingWritten, writtenCounts, writeCounts, writeSlice, longestOrder}
 use Rattle.laws.specs.Refusal.{test-failed, first-left, first-right, unless-refused}
 
 -- "the counts of bytes and orders and the next position"
@@ -25,7 +25,7 @@ pastRefusal total at = cond (ltb total at) (refuse 13 0) none
 pub record Judged (P : Plan) (n m at bytes : ℕ) : Type 0 where
   pub counts : countsRefusal n m ≡ none
   pub position : at ≤ length (P n m)
-  pub room : 8 ≤ bytes
+  pub room : longestOrder ≤ bytes
 
 module _ (P : Plan) (n m at room : ℕ) where
   pub write-within : writeRefusal P n m at room ≡ none → Judged P n m at room
@@ -35,7 +35,7 @@ module _ (P : Plan) (n m at room : ℕ) where
       record {
         counts = first-left (countsRefusal n m) (positionRefusal (P n m) at) asked;
         position = ltb-false (length (P n m)) at (test-failed _ 13 0 (first-right (countsRefusal n m) (positionRefusal (P n m) at) asked));
-        room = ltb-false room 8 (test-failed _ 14 0 (first-right (askRefusal P n m at) (roomRefusal room) e));
+        room = ltb-false room longestOrder (test-failed _ 14 0 (first-right (askRefusal P n m at) (roomRefusal room) e));
       }
 
   -- the counts passed: the rest of the judging, by the total

@@ -23,7 +23,7 @@ use Rattle.plan.specs.Loops.{loop}
 use Rattle.plan.specs.Phased.{flat, partAt}
 use Rattle.plan.specs.Table.{Phase, table}
 use Rattle.plan.specs.Plan.{cellOf, plan}
-use Rattle.plan.specs.List.{plan-orders}
+use Rattle.plan.specs.PlanOrders.{plan-orders}
 use Rattle.orders.specs.declared.names.NamedOrder.{NamedOrder}
 use Rattle.orders.specs.Walk.{named, namedOf, numberedOf}
 use Rattle.orders.specs.Shaped.{InPhase, orderIn, flatIn, flat-order}

@@ -14,7 +14,7 @@ use Rattle.definitions.specs.Limits.{cellCount}
 use Rattle.laws.specs.Sizes.{Counts}
 use Rattle.plan.specs.declared.Family.the-variants.{Temporaries}
 use Rattle.plan.specs.declared.Place.{Place}
-use Rattle.plan.specs.Names.{number, familyCount, familyAt, placeOf, rowsOf, columnsOf}
+use Rattle.plan.specs.Names.{number, familyCount, familyAt, familyPlace, rowsOf, columnsOf}
 use Rattle.plan.specs.Layout.{base-grows}
 use Rattle.plan.specs.Phased.{phaseSize}
 use Rattle.plan.specs.Table.{phaseAt, phaseCount}
@@ -23,7 +23,7 @@ use Rattle.orders.specs.Shaped.{phaseLimit}
 
 -- the place of the family of a number
 abbrev pub placeAt : (n m lines sets f : ℕ) → Place
-placeAt n m lines sets f = placeOf n m lines sets (familyAt f)
+placeAt n m lines sets f = familyPlace n m lines sets (familyAt f)
 
 pub at-key : (n m lines sets f k : ℕ) → f ≡ k → placeAt n m lines sets k ≡ placeAt n m lines sets f
 at-key n m lines sets f k e = ap (placeAt n m lines sets) (sym e)

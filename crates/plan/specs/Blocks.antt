@@ -5,7 +5,7 @@ use Prim.Native.Nat.{ℕ, suc}
 use lib.Dec.{ltb}
 use Rattle.definitions.specs.Limits.{priceLimit, greatestPositive}
 use Rattle.plan.specs.Orders.{OrderOn, constant, sum, difference, product, less, equal}
-use Rattle.plan.specs.Names.{Name, at, Units, Shifts, Pool, Price, Quantity, Capacity, Amount, Flow, PoolPrice, Presence, Temporary, ZeroCell, One, Shift, PoolNumber, Side, Size, PositivePrice, Double, Key, Next, Membership, PoolSize, Demand, Subset, Cut, SizeBefore, RankBefore, SizeWith, RankWith, Used, Placement, Slack, Offer, HighestOffer}
+use Rattle.plan.specs.Names.{Name, at, Units, Shifts, Pool, Price, Quantity, Capacity, Amount, Flow, PriceOfPool, Presence, Temporary, ZeroCell, One, Shift, PoolNumber, Side, Size, PositivePrice, Double, Key, Next, Membership, PoolSize, Demand, Subset, Cut, SizeBefore, RankBefore, SizeWith, RankWith, Used, Placement, Slack, Offer, HighestOffer}
 use Rattle.plan.specs.Subsets.{leaves, complement}
 use Rattle.plan.specs.Running.{lowered, raised}
 
@@ -45,7 +45,7 @@ sizeBlock i =
 abbrev pub positivePriceBlock : ℕ → Block
 positivePriceBlock i = sum (PositivePrice i) (Price i) Shift ∷ []
 
--- that doubled
+-- twice the positive price
 abbrev pub doubleBlock : ℕ → Block
 doubleBlock i = sum (Double i) (PositivePrice i) (PositivePrice i) ∷ []
 
@@ -91,7 +91,7 @@ testAt true y i j = less (Temporary 0) (Key j) (Next i)
 testAt false true i j = less (Temporary 0) (Double j) (Key i)
 testAt false false i j = less (Temporary 0) ZeroCell ZeroCell
 
--- that test for the bids i and j
+-- is bid j before bid i? By the test for these two
 abbrev pub testOrder : (i j : ℕ) → OrderOn Name
 testOrder i j = testAt (ltb j i) (ltb i j) i j
 
@@ -195,7 +195,7 @@ abbrev pub priceBlock : ℕ → Block
 priceBlock p =
     less (Presence p) ZeroCell (HighestOffer p)
     ∷ difference (Temporary 0) (HighestOffer p) Shift
-    ∷ product (PoolPrice p) (Temporary 0) (Presence p)
+    ∷ product (PriceOfPool p) (Temporary 0) (Presence p)
     ∷ []
 
 -- ---- the end

@@ -12,24 +12,24 @@ use Rattle.laws.specs.Sum.{sum-bound}
 use Rattle.laws.specs.Extremes.{min-le-start}
 use Rattle.laws.specs.AcceptedBook.{poolIndex, Sound}
 use Rattle.theory.specs.Choices.{on-le}
-use Rattle.theory.specs.ClosedBest.{sizeTotal, demand-small, ahead-small, cut-small, used-size}
+use Rattle.theory.specs.ClosedBest.{sizeTotal, demand-small, size-before-small, cut-small, used-size}
 use Rattle.plan.specs.Subsets.{member}
-use Rattle.plan.specs.Values.{weight, demand, cut, reach, rank, usedAmount, acceptedAmount, rate, offer}
+use Rattle.plan.specs.Values.{poolSize, demand, cut, sizeWith, rank, usedAmount, acceptedAmount, positivePrice, offer}
 
 -- a sum of at most so many terms
 pub sum-limit : (k K : ℕ) (f : ℕ → ℕ) (b : ℕ) → k ≤ K → ((i : ℕ) → i < k → f i ≤ b) → sumTo k f ≤ K * b
 sum-limit k K f b l h = omega (arith, sum-bound k b f h, mul-le-mul-right b l)
 
 module _ (B : Book) (sound : Sound B) where
-  pub weight-small : (i p : ℕ) → i < B .n → weight B i p ≤ quantityLimit
-  weight-small i p l = omega (arith, on-le (eqb (poolIndex B i) p) (size B i), sound .size-small i l)
+  pub pool-size-small : (i p : ℕ) → i < B .n → poolSize B i p ≤ quantityLimit
+  pool-size-small i p l = omega (arith, on-le (eqb (poolIndex B i) p) (size B i), sound .size-small i l)
 
   pub demands-small : sumTo (B .m) (demand B) ≤ poolLimit * sizeTotal
   demands-small = sum-limit (B .m) poolLimit (demand B) sizeTotal (sound .pools) (λ p _. demand-small B sound p)
 
-  pub reach-small : (i p : ℕ) → i < B .n → reach B i p ≤ sizeTotal + quantityLimit
-  unfolding reach
-  reach-small i p l = omega (arith, ahead-small B sound i p, weight-small i p l)
+  pub size-with-small : (i p : ℕ) → i < B .n → sizeWith B i p ≤ sizeTotal + quantityLimit
+  unfolding sizeWith
+  size-with-small i p l = omega (arith, size-before-small B sound i p, pool-size-small i p l)
 
   -- what a set costs, for bids with sums x
   pub set-cost-small : (x : ℕ → ℕ) → ((p : ℕ) → p < B .m → x p ≤ sizeTotal + quantityLimit) → (S : ℕ) → cut B S + sumTo (B .m) (λ p. on (not (member S p)) (x p)) ≤ greatestPositive
@@ -46,7 +46,7 @@ module _ (B : Book) (sound : Sound B) where
 
   pub offer-small : (i : ℕ) → i < B .n → offer B i ≤ 2 * priceLimit + 1
   unfolding offer
-  offer-small i l = omega (arith, on-le (ltb 0 (acceptedAmount B i) && sale B i) (rate B i), sound .price-small i l)
+  offer-small i l = omega (arith, on-le (ltb 0 (acceptedAmount B i) && sale B i) (positivePrice B i), sound .price-small i l)
 
   pub used-small : (i : ℕ) → i < B .n → usedAmount B i ≤ quantityLimit
   used-small i l = omega (arith, used-size B sound i l, sound .size-small i l)

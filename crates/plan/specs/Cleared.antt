@@ -2,7 +2,7 @@
 use mathlib.Core.Path.{_≡_, refl, ap, subst, _∙_}
 use mathlib.Core.Logic.{_≢_}
 use mathlib.Core.Bool.{Bool, true}
-use mathlib.Core.List.{List, _++_, map, map-append}
+use mathlib.Core.List.{List, [], _∷_, _++_, map, map-append}
 use Prim.Native.Nat.{ℕ, zero, suc, _+_, _*_, _≤_, _<_}
 use native.Mathlib.Nat.{le-refl}
 use native.Mathlib.Omega.{arith}
@@ -15,24 +15,24 @@ use Rattle.definitions.specs.Limits.{cellCount}
 use Rattle.definitions.specs.Arithmetic.{sumTo}
 use Rattle.definitions.specs.Book.{Book}
 use Rattle.definitions.specs.Sheet.{sealedSheet, firstResult, amountCell, flowCell, priceCell, presenceCell, firstScratch}
-use Rattle.definitions.specs.Machine.{cell, runOf}
+use Rattle.definitions.specs.Machine.{cell, stepOf, runOf}
 use Rattle.laws.specs.Tests.{Lt?, less, more, lt?}
 use Rattle.laws.specs.AcceptedBook.{Sound}
 use Rattle.plan.specs.Orders.{OrderOn, constant, operate, target, orderOf, renamed, run}
-use Rattle.plan.specs.Loops.{loop, listed}
+use Rattle.plan.specs.Loops.{loop, oneOf}
 use Rattle.plan.specs.Names.{Family, number, Name, at, Amounts, Flows, Prices, Temporaries, familyCount, rowsOf, columnsOf}
 use Rattle.plan.specs.Layout.{address-below, address-apart}
-use Rattle.laws.specs.Run.{run-append}
 use Rattle.plan.specs.Simulation.{run-length, run-other, AllNamed, run-agrees}
 use Rattle.plan.specs.Entries.{all-imply}
 use Rattle.plan.specs.Phased.{flat, flat-last, each-flat}
-use Rattle.plan.specs.Values.{tables, acceptedAmount, lineFlow, closedPrice, closedPresence}
+use Rattle.plan.specs.Values.{cellTables, acceptedAmount, lineFlow, closedPrice, closedPresence}
 use Rattle.plan.specs.Blocks.{zeroBlock}
 use Rattle.plan.specs.Table.{scratchCount, zeroPhase, work, table}
 use Rattle.plan.specs.Whole.{outputs, work-done}
 use Rattle.plan.specs.Proper.{Valid, Proper, work-each}
-use Rattle.plan.specs.Plan.{from, from-scratch, from-end, zero-cell, cellOf, numbered, plan, Writable, WritesWell, numbered-writes, names-fit}
-use Rattle.plan.specs.Sealed.{sealedState, sealed-length, sealed-zero, sealed-inputs}
+use Rattle.plan.specs.Plan.{from, from-scratch, from-end, zero-cell, cellOf, cellOrders, plan, Writable, WritesWell, numbered-writes, names-fit}
+use Rattle.plan.specs.SealedSheet.{sealed-length, sealed-zero}
+use Rattle.plan.specs.Sealed.{sealedState, sealed-inputs}
 
 -- what the sheet r holds when book B is cleared, by document 01's cells
 pub record HoldsClearing (B : Book) (r : List ℕ) : Type 0 where
@@ -43,6 +43,11 @@ pub record HoldsClearing (B : Book) (r : List ℕ) : Type 0 where
   pub price-cells : (p : ℕ) → p < B .m → cell r (priceCell (B .n) (B .m) p) ≡ closedPrice B p
   pub presence-cells : (p : ℕ) → p < B .m → cell r (presenceCell (B .n) (B .m) p) ≡ closedPresence B p
   pub scratch-zero : (c : ℕ) → firstScratch (B .n) (B .m) ≤ c → cell r c ≡ 0
+
+run-append : (xs ys : List Order) (s : List ℕ) → runOf (xs ++ ys) s ≡ runOf ys (runOf xs s)
+unfolding runOf
+run-append [] ys s = refl
+run-append (x ∷ xs) ys s = run-append xs ys (stepOf s x)
 
 module _ (n m : ℕ) where
   -- the sheet after orders over names
@@ -129,13 +134,13 @@ module _ (B : Book) (sound : Sound B) where
   untouched : (c : ℕ) → (Writable (B .n) (B .m) c → ⊥) → cell clearedSheet c ≡ cell sealed c
   unfolding plan
   untouched c h =
-      run-other c (numbered (B .n) (B .m))
-      (all-imply (WritesWell (B .n) (B .m)) (λ o. target o ≢ c) (λ o w e. h (subst (Writable (B .n) (B .m)) e (w .0))) (numbered (B .n) (B .m)) (numbered-writes (B .n) (B .m) (sound .bids) (sound .pools)))
+      run-other c (cellOrders (B .n) (B .m))
+      (all-imply (WritesWell (B .n) (B .m)) (λ o. target o ≢ c) (λ o w e. h (subst (Writable (B .n) (B .m)) e (w .0))) (cellOrders (B .n) (B .m)) (numbered-writes (B .n) (B .m) (sound .bids) (sound .pools)))
       sealed
 
   -- the results, by their names
-  result-cell : (t : Family) → listed outputs t ≡ true → number t < number Temporaries → (i j : ℕ) → i < rowsOf (B .n) (B .m) t → j < columnsOf (B .n) (B .m) t
-      → cell clearedSheet (cellOf (B .n) (B .m) (at t i j)) ≡ tables B .value t i j
+  result-cell : (t : Family) → oneOf outputs t ≡ true → number t < number Temporaries → (i j : ℕ) → i < rowsOf (B .n) (B .m) t → j < columnsOf (B .n) (B .m) t
+      → cell clearedSheet (cellOf (B .n) (B .m) (at t i j)) ≡ cellTables B .value t i j
   unfolding from
   result-cell t e l i j a b =
       let c : ℕ = cellOf (B .n) (B .m) (at t i j) in
@@ -159,7 +164,7 @@ module _ (B : Book) (sound : Sound B) where
 
   cleared-length : length clearedSheet ≡ cellCount
   unfolding plan
-  cleared-length = run-length (numbered (B .n) (B .m)) sealed ∙ sealed-length B sound
+  cleared-length = run-length (cellOrders (B .n) (B .m)) sealed ∙ sealed-length B sound
 
   pub plan-clears : HoldsClearing B (runOf (plan (B .n) (B .m)) (sealedSheet B))
   unfolding sumTo
@@ -167,7 +172,9 @@ module _ (B : Book) (sound : Sound B) where
     length-kept = cleared-length;
     inputs-kept = λ c h. untouched c (λ w. omega (arith, w .0));
     amount-cells = λ i a. at-cell (cellOf (B .n) (B .m) (at Amounts i 0)) (amountCell (B .n) (B .m) i) _ (omega arith) (result-cell Amounts refl (lit< tt) i 0 a (lit< tt));
-    flow-cells = λ a b x y. at-cell (cellOf (B .n) (B .m) (at Flows (a * B .m + b) 0)) (flowCell (B .n) (B .m) a b) _ (omega arith) (result-cell Flows refl (lit< tt) (a * B .m + b) 0 (digits-lt x y) (lit< tt));
+    flow-cells =
+        λ a b x y. at-cell (cellOf (B .n) (B .m) (at Flows (a * B .m + b) 0)) (flowCell (B .n) (B .m) a b) _ (omega arith)
+        (result-cell Flows refl (lit< tt) (a * B .m + b) 0 (digits-lt x y) (lit< tt));
     price-cells = λ p a. at-cell (cellOf (B .n) (B .m) (at Prices p 0)) (priceCell (B .n) (B .m) p) _ (omega arith) (result-cell Prices refl (lit< tt) p 0 a (lit< tt));
     presence-cells = λ p a. at-cell (cellOf (B .n) (B .m) (at Prices p 1)) (presenceCell (B .n) (B .m) p) _ (omega arith) (result-cell Prices refl (lit< tt) p 1 a (lit< tt));
     scratch-zero = scratch-cell;

@@ -9,56 +9,56 @@ use lib.Arith.{lt-one}
 use borrow.Author.Tests.{ne-eqb}
 use Rattle.plan.specs.Orders.{OrderOn, State, run}
 use Rattle.plan.specs.Names.{Family, number, family-equal, Name, at, family, row, same}
-use Rattle.plan.specs.Loops.{loop, named-run-append, loop-invariant, listed, among, writes, writes-append, writes-loop, writes-more, eqb-same, keep, loop-only}
+use Rattle.plan.specs.Loops.{loop, named-run-append, loop-invariant, oneOf, among, writes, writes-append, writes-loop, writes-more, eqb-same, keep, loop-only}
 
 -- ---- lists of families
 
 -- no family of ts is one of ws
 abbrev pub apart : List Family → List Family → Bool
 apart ws [] = true
-apart ws (t ∷ ts) = not (listed ws t) && apart ws ts
+apart ws (t ∷ ts) = not (oneOf ws t) && apart ws ts
 
-pub apart-listed : (ws ts : List Family) → apart ws ts ≡ true → (t : Family) → listed ts t ≡ true → listed ws t ≡ false
+pub apart-listed : (ws ts : List Family) → apart ws ts ≡ true → (t : Family) → oneOf ts t ≡ true → oneOf ws t ≡ false
 apart-listed ws [] h t e = absurd (false≢true e)
-apart-listed ws (u ∷ ts) h t e = go (listed ws u) (eqb (number u) (number t)) refl refl h e (λ a. apart-listed ws ts a t)
+apart-listed ws (u ∷ ts) h t e = go (oneOf ws u) (eqb (number u) (number t)) refl refl h e (λ a. apart-listed ws ts a t)
   where
-    go : (x y : Bool) → listed ws u ≡ x → eqb (number u) (number t) ≡ y → not x && apart ws ts ≡ true → y || listed ts t ≡ true
-        → (apart ws ts ≡ true → listed ts t ≡ true → listed ws t ≡ false) → listed ws t ≡ false
+    go : (x y : Bool) → oneOf ws u ≡ x → eqb (number u) (number t) ≡ y → not x && apart ws ts ≡ true → y || oneOf ts t ≡ true
+        → (apart ws ts ≡ true → oneOf ts t ≡ true → oneOf ws t ≡ false) → oneOf ws t ≡ false
     go true y p q a b ih = absurd (false≢true a)
-    go false true p q a b ih = ap (listed ws) (sym (family-equal u t q)) ∙ p
+    go false true p q a b ih = ap (oneOf ws) (sym (family-equal u t q)) ∙ p
     go false false p q a b ih = ih a b
 
 -- every family of us is one of ts
 abbrev pub part-of : List Family → List Family → Bool
 part-of ts [] = true
-part-of ts (u ∷ us) = listed ts u && part-of ts us
+part-of ts (u ∷ us) = oneOf ts u && part-of ts us
 
-pub part-listed : (ts us : List Family) → part-of ts us ≡ true → (t : Family) → listed us t ≡ true → listed ts t ≡ true
+pub part-listed : (ts us : List Family) → part-of ts us ≡ true → (t : Family) → oneOf us t ≡ true → oneOf ts t ≡ true
 part-listed ts [] h t e = absurd (false≢true e)
-part-listed ts (u ∷ us) h t e = go (listed ts u) (eqb (number u) (number t)) refl refl h e (λ a. part-listed ts us a t)
+part-listed ts (u ∷ us) h t e = go (oneOf ts u) (eqb (number u) (number t)) refl refl h e (λ a. part-listed ts us a t)
   where
-    go : (x y : Bool) → listed ts u ≡ x → eqb (number u) (number t) ≡ y → x && part-of ts us ≡ true → y || listed us t ≡ true
-        → (part-of ts us ≡ true → listed us t ≡ true → listed ts t ≡ true) → listed ts t ≡ true
+    go : (x y : Bool) → oneOf ts u ≡ x → eqb (number u) (number t) ≡ y → x && part-of ts us ≡ true → y || oneOf us t ≡ true
+        → (part-of ts us ≡ true → oneOf us t ≡ true → oneOf ts t ≡ true) → oneOf ts t ≡ true
     go false y p q a b ih = absurd (false≢true a)
-    go true true p q a b ih = ap (listed ts) (sym (family-equal u t q)) ∙ p
+    go true true p q a b ih = ap (oneOf ts) (sym (family-equal u t q)) ∙ p
     go true false p q a b ih = ih a b
 
 -- the families of ts that are none of ws
 abbrev pub except : List Family → List Family → List Family
 except ws [] = []
-except ws (t ∷ ts) = cond (listed ws t) (except ws ts) (t ∷ except ws ts)
+except ws (t ∷ ts) = cond (oneOf ws t) (except ws ts) (t ∷ except ws ts)
 
 -- one of them is one of ts, and none of ws
-pub except-listed : (ws ts : List Family) (t : Family) → listed (except ws ts) t ≡ true → (listed ts t ≡ true) × (listed ws t ≡ false)
+pub except-listed : (ws ts : List Family) (t : Family) → oneOf (except ws ts) t ≡ true → (oneOf ts t ≡ true) × (oneOf ws t ≡ false)
 except-listed ws [] t e = absurd (false≢true e)
-except-listed ws (u ∷ ts) t e = go (listed ws u) (eqb (number u) (number t)) refl refl e (except-listed ws ts t)
+except-listed ws (u ∷ ts) t e = go (oneOf ws u) (eqb (number u) (number t)) refl refl e (except-listed ws ts t)
   where
-    go : (x y : Bool) → listed ws u ≡ x → eqb (number u) (number t) ≡ y → listed (cond x (except ws ts) (u ∷ except ws ts)) t ≡ true
-        → (listed (except ws ts) t ≡ true → (listed ts t ≡ true) × (listed ws t ≡ false)) → (y || listed ts t ≡ true) × (listed ws t ≡ false)
+    go : (x y : Bool) → oneOf ws u ≡ x → eqb (number u) (number t) ≡ y → oneOf (cond x (except ws ts) (u ∷ except ws ts)) t ≡ true
+        → (oneOf (except ws ts) t ≡ true → (oneOf ts t ≡ true) × (oneOf ws t ≡ false)) → (y || oneOf ts t ≡ true) × (oneOf ws t ≡ false)
     go true true p q a ih = (refl, ih a .1)
     go true false p q a ih = ih a
-    go false true p q a ih = (refl, ap (listed ws) (sym (family-equal u t q)) ∙ p)
-    go false false p q a ih = ih (sym (ap (λ (y : Bool). y || listed (except ws ts) t) q) ∙ a)
+    go false true p q a ih = (refl, ap (oneOf ws) (sym (family-equal u t q)) ∙ p)
+    go false false p q a ih = ih (sym (ap (λ (y : Bool). y || oneOf (except ws ts) t) q) ∙ a)
 
 -- ---- what the families hold
 
@@ -71,7 +71,7 @@ pub record Tables : Type 0 where
 module _ (T : Tables) where
   -- the families of ts hold what the tables say
   abbrev pub Holds : List Family → State → Type 0
-  Holds ts s = (t : Family) → listed ts t ≡ true → (i j : ℕ) → i < T .rows t → j < T .columns t → s (at t i j) ≡ T .value t i j
+  Holds ts s = (t : Family) → oneOf ts t ≡ true → (i j : ℕ) → i < T .rows t → j < T .columns t → s (at t i j) ≡ T .value t i j
 
   pub holds-keep : (ws ts : List Family) → apart ws ts ≡ true → (l : List (OrderOn Name)) → writes (among ws) l ≡ true → (s : State) → Holds ts s → Holds ts (run l s)
   holds-keep ws ts a l w s h t e i j x y = keep (among ws) l (at t i j) s w (apart-listed ws ts a t e) ∙ h t e i j x y
@@ -82,7 +82,7 @@ module _ (T : Tables) where
   pub holds-add : (u : Family) (ts : List Family) (s : State) → ((i j : ℕ) → i < T .rows u → j < T .columns u → s (at u i j) ≡ T .value u i j) → Holds ts s → Holds (u ∷ ts) s
   holds-add u ts s new old t e = go (eqb (number u) (number t)) refl e
     where
-      go : (x : Bool) → eqb (number u) (number t) ≡ x → x || listed ts t ≡ true → (i j : ℕ) → i < T .rows t → j < T .columns t → s (at t i j) ≡ T .value t i j
+      go : (x : Bool) → eqb (number u) (number t) ≡ x → x || oneOf ts t ≡ true → (i j : ℕ) → i < T .rows t → j < T .columns t → s (at t i j) ≡ T .value t i j
       go true q a = rw (← family-equal u t q) new
       go false q a = old t a
 
@@ -103,7 +103,8 @@ module _ (T : Tables) where
   step-part {us = us} {x = x} vs p e = record { done = λ s h. holds-part us vs e (run x s) (p .done s h) }
 
   -- a phase is such a step from any families that it reads; those that it writes besides its own are given up
-  pub phase-step : {reads : List Family} {u : Family} {ws : List Family} {l : List (OrderOn Name)} (ts : List Family) → Phase reads u ws l → part-of ts reads ≡ true → Step ts (u ∷ except (u ∷ ws) ts) l
+  pub phase-step : {reads : List Family} {u : Family} {ws : List Family} {l : List (OrderOn Name)} (ts : List Family) → Phase reads u ws l
+      → part-of ts reads ≡ true → Step ts (u ∷ except (u ∷ ws) ts) l
   phase-step {reads} {u} {ws} {l} ts p e = record {
     done = λ s h. holds-add u (except (u ∷ ws) ts) (run l s) (p .fills s (holds-part ts reads e s h))
         (λ t f i j a b.
@@ -146,7 +147,7 @@ touches-row u i j ws l h = writes-more (touches-cell u i j ws) (touches u i ws) 
 pub touches-among : (u : Family) (i : ℕ) (vs ws : List Family) → part-of ws vs ≡ true → (l : List (OrderOn Name)) → writes (among vs) l ≡ true → writes (touches u i ws) l ≡ true
 touches-among u i vs ws h l e = writes-more (among vs) (touches u i ws) (λ c a. rw (part-listed ws vs h (family c) a)) l e
 
-module _ (T : Tables) (reads : List Family) (u : Family) (ws : List Family) (clear : apart (u ∷ ws) reads ≡ true) (new : listed ws u ≡ false) where
+module _ (T : Tables) (reads : List Family) (u : Family) (ws : List Family) (clear : apart (u ∷ ws) reads ≡ true) (new : oneOf ws u ≡ false) where
   -- after some first orders that make J true, turn i writes row i of the family and keeps J
   pub fill-after : (first : List (OrderOn Name)) (f : ℕ → List (OrderOn Name)) (J : State → Type 0) → writes (among ws) first ≡ true
       → ((i : ℕ) → writes (touches u i ws) (f i) ≡ true) → ((s : State) → Holds T reads s → J (run first s)) → ((i : ℕ) (t : State) → i < T .rows u → J t → J (run (f i) t))

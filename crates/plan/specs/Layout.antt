@@ -23,9 +23,6 @@ module _ (rows columns : Family → ℕ) where
   abbrev pub Named : ℕ → Name → Type 0
   Named k (at t i j) = (number t < k) × (i < rows t) × (j < columns t)
 
-  in-table : (t : Family) (i j : ℕ) → i < rows t → j < columns t → i * columns t + j < rows t * columns t
-  in-table t i j a b = digits-lt a b
-
   table-end : (t : Family) (k : ℕ) → number t < k → base (number t) + rows t * columns t ≤ base k
   unfolding sumTo
   table-end t k h =
@@ -36,14 +33,14 @@ module _ (rows columns : Family → ℕ) where
   base-grows t k h = sum-prefix t k (λ u. rows (familyAt u) * columns (familyAt u)) h
 
   pub address-below : (k : ℕ) (c : Name) → Named k c → address c < base k
-  address-below k (at t i j) h = omega (arith, in-table t i j (h .1) (h .2), table-end t k (h .0))
+  address-below k (at t i j) h = omega (arith, digits-lt (h .1) (h .2), table-end t k (h .0))
 
   pub address-apart : (k : ℕ) (c d : Name) → Named k c → Named k d → address c ≡ address d → c ≡ d
   address-apart k (at t i j) (at u a b) h g e = go (lt? (number t) (number u)) (lt? (number u) (number t))
     where
       go : {x y : Bool} → Lt? (number t) (number u) x → Lt? (number u) (number t) y → at t i j ≡ at u a b
-      go (less p) q = absurd (omega (arith, e, in-table t i j (h .1) (h .2), table-end t (number u) p))
-      go (more p) (less q) = absurd (omega (arith, e, in-table u a b (g .1) (g .2), table-end u (number t) q))
+      go (less p) q = absurd (omega (arith, e, digits-lt (h .1) (h .2), table-end t (number u) p))
+      go (more p) (less q) = absurd (omega (arith, e, digits-lt (g .1) (g .2), table-end u (number t) q))
       go (more p) (more q) =
           let tu : t ≡ u = number-same t u (omega arith) in
           let ee : i * columns t + j ≡ a * columns u + b = omega (arith, e, ap (λ (f : Family). base (number f)) tu) in

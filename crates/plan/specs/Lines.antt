@@ -22,7 +22,7 @@ use Rattle.plan.specs.Holds.{Holds, Phase, holds-keep, holds-part, fill-
 use Rattle.plan.specs.Names.{Family, Name, same, Capacities, ZeroCells, Memberships, Subsets, Cuts, Uses, Placements, Slacks, Flows, Temporaries, ZeroCell, Temporary, Capacity, Flow, Subset, Placement, Slack}
 use Rattle.plan.specs.Subsets.{leaves, subsetSum}
 use Rattle.plan.specs.Running.{accumulate, gather, Lowers, lower, lowered, subset-sums}
-use Rattle.plan.specs.Values.{tables, cut, usedAmount, placement, slack, restOf, flowOf, takenOf, slackAfter, lineFlow}
+use Rattle.plan.specs.Values.{cellTables, cut, usedAmount, placement, slack, restOf, flowOf, takenOf, slackAfter, lineFlow}
 use Rattle.plan.specs.Blocks.{Block, placementTurn, slackBlock, restCell, restTurn, takenCell, takeTurn}
 use Rattle.plan.specs.Table.{placementBlock, subsetBlocks, restBlock, takeBlock, lineBlock}
 use Rattle.plan.specs.Cuts.{subsets-frame}
@@ -49,44 +49,44 @@ module _ (B : Book) (sound : Sound B) where
 
   -- what a placement reads
   abbrev HoldsUses : State → Type 0
-  HoldsUses = Holds (tables B) (Memberships ∷ Uses ∷ [])
+  HoldsUses = Holds (cellTables B) (Memberships ∷ Uses ∷ [])
 
   placement-value : (p : ℕ) (t : State) → p < B .m → HoldsUses t → run (placementBlock (B .n) (B .m) p) t (Placement p) ≡ placement B p
   unfolding placement
   placement-value p t b h =
       gather HoldsUses (Placement p) (loop (B .n) (placementTurn p)) (placement B p)
-      (holds-keep (tables B) (Placements ∷ []) (Memberships ∷ Uses ∷ []) refl (constant (Placement p) 0 ∷ []) refl)
+      (holds-keep (cellTables B) (Placements ∷ []) (Memberships ∷ Uses ∷ []) refl (constant (Placement p) 0 ∷ []) refl)
       (accumulate HoldsUses (Placement p) (B .n) (placementTurn p) (λ i. on (eqb (poolIndex B i) p) (usedAmount B i))
       (λ i l r g c. (
-        holds-keep (tables B) (Placements ∷ Temporaries ∷ []) (Memberships ∷ Uses ∷ []) refl (placementTurn p i) refl r g,
+        holds-keep (cellTables B) (Placements ∷ Temporaries ∷ []) (Memberships ∷ Uses ∷ []) refl (placementTurn p i) refl r g,
         rw (eqb-same p, g Memberships refl i p l b, g Uses refl i 0 l (lit< tt), times-on (eqb (poolIndex B i) p) (usedAmount B i) (omega (arith, used-small B sound i l)))
             (plus-small (r (Placement p)) (on (eqb (poolIndex B i) p) (usedAmount B i)) c),
       )))
       t h (omega (arith, placement-small B sound p)) .1
 
-  pub placement-phase : Phase (tables B) (Memberships ∷ Uses ∷ []) Placements (Temporaries ∷ []) (loop (B .m) (placementBlock (B .n) (B .m)))
-  placement-phase = fill-column (tables B) (Memberships ∷ Uses ∷ []) Placements (Temporaries ∷ []) refl refl refl (placementBlock (B .n) (B .m))
+  pub placement-phase : Phase (cellTables B) (Memberships ∷ Uses ∷ []) Placements (Temporaries ∷ []) (loop (B .m) (placementBlock (B .n) (B .m)))
+  placement-phase = fill-column (cellTables B) (Memberships ∷ Uses ∷ []) Placements (Temporaries ∷ []) refl refl refl (placementBlock (B .n) (B .m))
       (λ p. rw (eqb-same p) (writes-loop _ (B .n) (placementTurn p) (λ i _. rw (eqb-same p)))) placement-value
 
   -- ---- the slacks before the first line
 
   -- the cuts, and the placements' sums over all sets
   abbrev Summed : State → Type 0
-  Summed t = Holds (tables B) (Cuts ∷ []) t × ((S : ℕ) → S < 2 ^ B .m → t (Subset S) ≡ subsetSum (B .m) (placement B) S)
+  Summed t = Holds (cellTables B) (Cuts ∷ []) t × ((S : ℕ) → S < 2 ^ B .m → t (Subset S) ≡ subsetSum (B .m) (placement B) S)
 
   placements-small : sumTo (B .m) (placement B) ≤ poolLimit * sizeTotal
   placements-small = sum-limit (B .m) poolLimit (placement B) sizeTotal (sound .pools) (λ p _. placement-small B sound p)
 
-  pub slack-phase : Phase (tables B) (Placements ∷ Cuts ∷ []) Slacks (Subsets ∷ []) (subsetBlocks (B .n) (B .m) Placement ++ loop (2 ^ B .m) slackBlock)
+  pub slack-phase : Phase (cellTables B) (Placements ∷ Cuts ∷ []) Slacks (Subsets ∷ []) (subsetBlocks (B .n) (B .m) Placement ++ loop (2 ^ B .m) slackBlock)
   unfolding slack
   slack-phase =
-      fill-after (tables B) (Placements ∷ Cuts ∷ []) Slacks (Subsets ∷ []) refl refl (subsetBlocks (B .n) (B .m) Placement) slackBlock Summed (subsets-frame (B .n) (B .m) Placement)
+      fill-after (cellTables B) (Placements ∷ Cuts ∷ []) Slacks (Subsets ∷ []) refl refl (subsetBlocks (B .n) (B .m) Placement) slackBlock Summed (subsets-frame (B .n) (B .m) Placement)
       (λ S. rw (eqb-same S))
       (λ s h. (
-        holds-keep (tables B) (Subsets ∷ []) (Cuts ∷ []) refl (subsetBlocks (B .n) (B .m) Placement) (subsets-frame (B .n) (B .m) Placement) s (holds-part (tables B) (Placements ∷ Cuts ∷ []) (Cuts ∷ []) refl s h),
+        holds-keep (cellTables B) (Subsets ∷ []) (Cuts ∷ []) refl (subsetBlocks (B .n) (B .m) Placement) (subsets-frame (B .n) (B .m) Placement) s (holds-part (cellTables B) (Placements ∷ Cuts ∷ []) (Cuts ∷ []) refl s h),
         subset-sums (B .m) Placement (λ p. refl) (placement B) (omega (arith, placements-small)) s (λ p b. h Placements refl p 0 b (lit< tt)),
       ))
-      (λ S t l h. (holds-keep (tables B) (Slacks ∷ []) (Cuts ∷ []) refl (slackBlock S) refl t (h .0), λ R a. h .1 R a))
+      (λ S t l h. (holds-keep (cellTables B) (Slacks ∷ []) (Cuts ∷ []) refl (slackBlock S) refl t (h .0), λ R a. h .1 R a))
       (λ S j t a b h. rw (lt-one b, eqb-same S, h .0 Cuts refl S 0 a (lit< tt), h .1 S a)
       (minus-small (cut B S) (subsetSum (B .m) (placement B) S) (omega (arith, cut-small B sound S)) (placement-cut B sound S)))
 
@@ -99,11 +99,11 @@ module _ (B : Book) (sound : Sound B) where
   module _ (x : ℕ → ℕ) (l a b : ℕ) (la : a < B .m) (lb : b < B .m) (small : (S : ℕ) → x S ≤ amountLimit) (fits : (S : ℕ) → S < 2 ^ B .m → takenOf B x a b S ≤ x S) where
     -- that, and slacks x
     abbrev HoldsSlacks : State → Type 0
-    HoldsSlacks t = Holds (tables B) lineReads t × ((S : ℕ) → S < 2 ^ B .m → t (Slack S) ≡ x S)
+    HoldsSlacks t = Holds (cellTables B) lineReads t × ((S : ℕ) → S < 2 ^ B .m → t (Slack S) ≡ x S)
 
     slacks-keep : (o : Block) → writes (among (Temporaries ∷ Flows ∷ [])) o ≡ true → (t : State) → HoldsSlacks t → HoldsSlacks (run o t)
     slacks-keep o w t g = (
-      holds-keep (tables B) (Temporaries ∷ Flows ∷ []) lineReads refl o w t (g .0),
+      holds-keep (cellTables B) (Temporaries ∷ Flows ∷ []) lineReads refl o w t (g .0),
       λ S c. keep (among (Temporaries ∷ Flows ∷ [])) o (Slack S) t w refl ∙ g .1 S c,
     )
 
@@ -123,7 +123,8 @@ module _ (B : Book) (sound : Sound B) where
         let e : u (Temporary 2) ≡ capacity B a b
         = rw (g .0 Capacities refl a b la lb, g .0 ZeroCells refl 0 0 (lit< tt) (lit< tt)) (omega (arith, sound .capacity-small a b la lb)) in
         let r : HoldsSlacks (run (loop (2 ^ B .m) (restTurn a b)) u) × (run (loop (2 ^ B .m) (restTurn a b)) u (Temporary 2) ≡ least (u (Temporary 2)))
-        = lower HoldsSlacks (Temporary 2) (2 ^ B .m) (restTurn a b) (λ S. cond (leaves S a b) (x S) (capacity B a b)) rest-lowers u (slacks-keep one refl t g) (omega (arith, sound .capacity-small a b la lb)) in
+        = lower HoldsSlacks (Temporary 2) (2 ^ B .m) (restTurn a b) (λ S. cond (leaves S a b) (x S) (capacity B a b)) rest-lowers u
+        (slacks-keep one refl t g) (omega (arith, sound .capacity-small a b la lb)) in
         (r .0, r .1 ∙ ap least e)
 
     -- from a state that holds the slacks, the rest and the flow
@@ -156,7 +157,8 @@ module _ (B : Book) (sound : Sound B) where
         let one : Block = difference (Flow l) (Capacity a b) (Temporary 2) ∷ [] in
         let u : State = run one t in
         let e : u (Flow l) ≡ flowOf B x a b
-        = rw (eqb-same l, g .0 Capacities refl a b la lb, r) (minus-small (capacity B a b) (restOf B x a b) (omega (arith, sound .capacity-small a b la lb)) (omega (arith, flow-and-rest B sound x a b))) in (
+        = rw (eqb-same l, g .0 Capacities refl a b la lb, r)
+        (minus-small (capacity B a b) (restOf B x a b) (omega (arith, sound .capacity-small a b la lb)) (omega (arith, flow-and-rest B sound x a b))) in (
           keep (among (Slacks ∷ [])) (loop (2 ^ B .m) (takeTurn l a b)) (Flow l) u take-frame refl ∙ e,
           take-value u (slacks-keep one refl t g) r e,
         )
@@ -165,7 +167,7 @@ module _ (B : Book) (sound : Sound B) where
 
   -- the slacks after k lines, and their flows
   abbrev Fixed : ℕ → State → Type 0
-  Fixed k t = Holds (tables B) lineReads t × ((S : ℕ) → S < 2 ^ B .m → t (Slack S) ≡ slackAfter B k S) × ((q : ℕ) → q < k → t (Flow q) ≡ lineFlow B q)
+  Fixed k t = Holds (cellTables B) lineReads t × ((S : ℕ) → S < 2 ^ B .m → t (Slack S) ≡ slackAfter B k S) × ((q : ℕ) → q < k → t (Flow q) ≡ lineFlow B q)
 
   line-turn : (l : ℕ) (t : State) → l < B .m * B .m → Fixed l t → Fixed (suc l) (run (lineBlock (B .n) (B .m) l) t)
   unfolding slackAfter
@@ -177,11 +179,12 @@ module _ (B : Book) (sound : Sound B) where
       let lb : b < B .m = line-ends (B .m) l h .1 in
       let small : (S : ℕ) → x S ≤ amountLimit = slack-small B sound l in
       let fits : (S : ℕ) → S < 2 ^ B .m → takenOf B x a b S ≤ x S = λ S _. taken-slack B sound l S h in
-      let first : HoldsSlacks x l a b la lb small fits (run (restBlock (B .n) (B .m) a b) t) × (run (restBlock (B .n) (B .m) a b) t (Temporary 2) ≡ restOf B x a b) = rest-value x l a b la lb small fits t (i .0, i .1) in
+      let first : HoldsSlacks x l a b la lb small fits (run (restBlock (B .n) (B .m) a b) t) × (run (restBlock (B .n) (B .m) a b) t (Temporary 2) ≡ restOf B x a b)
+      = rest-value x l a b la lb small fits t (i .0, i .1) in
       let r : (run (takeBlock (B .n) (B .m) l a b) (run (restBlock (B .n) (B .m) a b) t) (Flow l) ≡ flowOf B x a b) × ((S : ℕ) → S < 2 ^ B .m → run (takeBlock (B .n) (B .m) l a b) (run (restBlock (B .n) (B .m) a b) t) (Slack S) ≡ x S - takenOf B x a b S)
       = flow-value x l a b la lb small fits (run (restBlock (B .n) (B .m) a b) t) (first .0) (first .1) in
       let e : run (lineBlock (B .n) (B .m) l) t ≡ run (takeBlock (B .n) (B .m) l a b) (run (restBlock (B .n) (B .m) a b) t) = named-run-append (restBlock (B .n) (B .m) a b) (takeBlock (B .n) (B .m) l a b) t in (
-        holds-keep (tables B) (Flows ∷ Temporaries ∷ Slacks ∷ []) lineReads refl (lineBlock (B .n) (B .m) l) (line-frame (B .n) (B .m) l a b) t (i .0),
+        holds-keep (cellTables B) (Flows ∷ Temporaries ∷ Slacks ∷ []) lineReads refl (lineBlock (B .n) (B .m) l) (line-frame (B .n) (B .m) l a b) t (i .0),
         λ S c. ap (λ (w : State). w (Slack S)) e ∙ r .1 S c,
         λ q c. go q (eq-or-lt-of-le (le-of-suc-le-suc c)) (ap (λ (w : State). w (Flow l)) e ∙ r .0)
             (λ k ne. keep (λ d. not (same (Flow k) d)) (lineBlock (B .n) (B .m) l) (Flow k) t (line-off (B .n) (B .m) l a b k ne) (rw (eqb-same k))),
@@ -192,11 +195,11 @@ module _ (B : Book) (sound : Sound B) where
       go q (inl e) f k = rw e f
       go q (inr c) f k = k q (omega arith) ∙ i .2 q c
 
-  pub flow-phase : Phase (tables B) (Slacks ∷ Capacities ∷ ZeroCells ∷ []) Flows (Temporaries ∷ Slacks ∷ []) (loop (B .m * B .m) (lineBlock (B .n) (B .m)))
+  pub flow-phase : Phase (cellTables B) (Slacks ∷ Capacities ∷ ZeroCells ∷ []) Flows (Temporaries ∷ Slacks ∷ []) (loop (B .m * B .m) (lineBlock (B .n) (B .m)))
   unfolding slackAfter
   flow-phase = record {
     fills = λ s h l j a b. rw (lt-one b)
         (loop-invariant Fixed (B .m * B .m) (lineBlock (B .n) (B .m)) s
-        (holds-part (tables B) (Slacks ∷ Capacities ∷ ZeroCells ∷ []) lineReads refl s h, λ S c. h Slacks refl S 0 c (lit< tt), λ q c. absurd (not-suc-le-zero c)) line-turn .2 l a);
+        (holds-part (cellTables B) (Slacks ∷ Capacities ∷ ZeroCells ∷ []) lineReads refl s h, λ S c. h Slacks refl S 0 c (lit< tt), λ q c. absurd (not-suc-le-zero c)) line-turn .2 l a);
     frame = writes-loop _ (B .m * B .m) (lineBlock (B .n) (B .m)) (λ l _. line-frame (B .n) (B .m) l (l / B .m) (l % B .m));
   }

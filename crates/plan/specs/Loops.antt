@@ -32,13 +32,13 @@ loop-invariant P (suc k) f s base turn =
 -- ---- which cells are written
 
 -- t is one of ts
-abbrev pub listed : List Family → Family → Bool
-listed [] t = false
-listed (u ∷ ts) t = eqb (number u) (number t) || listed ts t
+abbrev pub oneOf : List Family → Family → Bool
+oneOf [] t = false
+oneOf (u ∷ ts) t = eqb (number u) (number t) || oneOf ts t
 
 -- c is of one of these families
 abbrev pub among : List Family → Name → Bool
-among ts c = listed ts (family c)
+among ts c = oneOf ts (family c)
 
 -- every order writes a cell that passes W
 abbrev pub writes : (Name → Bool) → List (OrderOn Name) → Bool

@@ -8,13 +8,13 @@ use Rattle.definitions.specs.Book.{Book}
 use Rattle.definitions.specs.Clearing.{before}
 use Rattle.laws.specs.Tests.{Lt?, less, more, lt?}
 use Rattle.laws.specs.AcceptedBook.{Sound}
-use Rattle.theory.specs.ClosedForms.{rate, key}
+use Rattle.theory.specs.ClosedForms.{positivePrice, key}
 use Rattle.theory.specs.ClosedBest.{before-low, before-high, before-self}
 
 -- the comparison that the plan makes; the tests say j < i and i < j
 abbrev pub keyTest : Bool → Bool → (B : Book) (j i : ℕ) → Bool
-keyTest true y B j i = ltb (key B j) (2 * rate B i + 1)
-keyTest false true B j i = ltb (2 * rate B j) (key B i)
+keyTest true y B j i = ltb (key B j) (2 * positivePrice B i + 1)
+keyTest false true B j i = ltb (2 * positivePrice B j) (key B i)
 keyTest false false B j i = false
 
 pub test-is-before : (B : Book) → Sound B → (j i : ℕ) → j < B .n → i < B .n → keyTest (ltb j i) (ltb i j) B j i ≡ before B j i

@@ -1,4 +1,4 @@
--- The families of cells: where each stands on the sheet, how many rows and columns it has (`placeOf`), and the names of its cells.
+-- The families of cells: where each stands on the sheet, how many rows and columns it has (`familyPlace`), and the names of its cells.
 -- What each holds is said where the code declares them, and in Values.
 use Prim.Native.Nat.{ℕ, _*_, _^_}
 use mathlib.Core.Path.{_≡_, refl, sym, ap, _∙_}
@@ -13,49 +13,49 @@ pub use Rattle.plan.specs.declared.Family.{Family}
 pub use Rattle.plan.specs.declared.Family.the-variants.{Bids, Capacities, Amounts, Flows, Prices, Temporaries, ZeroCells, Units, Shifts, PoolNumbers, Sides, Sizes, PositivePrices, Doubles, Keys, Nexts, Memberships, PoolSizes, Demands, Subsets, Cuts, SizesBefore, RanksBefore, SizesWith, RanksWith, Uses, Placements, Slacks, Offers, HighestOffers}
 
 -- the place of each family on the sheet, for n bids, m pools, and so many lines and sets of pools: its number, its rows and its columns
-abbrev pub placeOf : (n m lines sets : ℕ) → Family → Place
-placeOf n m lines sets Bids = (0, n, bidNumbers)
-placeOf n m lines sets Capacities = (1, m, m)
-placeOf n m lines sets Amounts = (2, n, 1)
-placeOf n m lines sets Flows = (3, lines, 1)
-placeOf n m lines sets Prices = (4, m, poolResults)
-placeOf n m lines sets Temporaries = (5, 3, 1)
-placeOf n m lines sets ZeroCells = (6, 1, 1)
-placeOf n m lines sets Units = (7, 1, 1)
-placeOf n m lines sets Shifts = (8, 1, 1)
-placeOf n m lines sets PoolNumbers = (9, m, 1)
-placeOf n m lines sets Sides = (10, n, 1)
-placeOf n m lines sets Sizes = (11, n, 1)
-placeOf n m lines sets PositivePrices = (12, n, 1)
-placeOf n m lines sets Doubles = (13, n, 1)
-placeOf n m lines sets Keys = (14, n, 1)
-placeOf n m lines sets Nexts = (15, n, 1)
-placeOf n m lines sets Memberships = (16, n, m)
-placeOf n m lines sets PoolSizes = (17, n, m)
-placeOf n m lines sets Demands = (18, m, 1)
-placeOf n m lines sets Subsets = (19, sets, 1)
-placeOf n m lines sets Cuts = (20, sets, 1)
-placeOf n m lines sets SizesBefore = (21, n, m)
-placeOf n m lines sets RanksBefore = (22, n, 1)
-placeOf n m lines sets SizesWith = (23, n, m)
-placeOf n m lines sets RanksWith = (24, n, 1)
-placeOf n m lines sets Uses = (25, n, 1)
-placeOf n m lines sets Placements = (26, m, 1)
-placeOf n m lines sets Slacks = (27, sets, 1)
-placeOf n m lines sets Offers = (28, n, 1)
-placeOf n m lines sets HighestOffers = (29, m, 1)
+abbrev pub familyPlace : (n m lines sets : ℕ) → Family → Place
+familyPlace n m lines sets Bids = (0, n, bidNumbers)
+familyPlace n m lines sets Capacities = (1, m, m)
+familyPlace n m lines sets Amounts = (2, n, 1)
+familyPlace n m lines sets Flows = (3, lines, 1)
+familyPlace n m lines sets Prices = (4, m, poolResults)
+familyPlace n m lines sets Temporaries = (5, 3, 1)
+familyPlace n m lines sets ZeroCells = (6, 1, 1)
+familyPlace n m lines sets Units = (7, 1, 1)
+familyPlace n m lines sets Shifts = (8, 1, 1)
+familyPlace n m lines sets PoolNumbers = (9, m, 1)
+familyPlace n m lines sets Sides = (10, n, 1)
+familyPlace n m lines sets Sizes = (11, n, 1)
+familyPlace n m lines sets PositivePrices = (12, n, 1)
+familyPlace n m lines sets Doubles = (13, n, 1)
+familyPlace n m lines sets Keys = (14, n, 1)
+familyPlace n m lines sets Nexts = (15, n, 1)
+familyPlace n m lines sets Memberships = (16, n, m)
+familyPlace n m lines sets PoolSizes = (17, n, m)
+familyPlace n m lines sets Demands = (18, m, 1)
+familyPlace n m lines sets Subsets = (19, sets, 1)
+familyPlace n m lines sets Cuts = (20, sets, 1)
+familyPlace n m lines sets SizesBefore = (21, n, m)
+familyPlace n m lines sets RanksBefore = (22, n, 1)
+familyPlace n m lines sets SizesWith = (23, n, m)
+familyPlace n m lines sets RanksWith = (24, n, 1)
+familyPlace n m lines sets Uses = (25, n, 1)
+familyPlace n m lines sets Placements = (26, m, 1)
+familyPlace n m lines sets Slacks = (27, sets, 1)
+familyPlace n m lines sets Offers = (28, n, 1)
+familyPlace n m lines sets HighestOffers = (29, m, 1)
 
 -- the number of a family
 abbrev pub number : Family → ℕ
-number f = placeOf 0 0 0 0 f .0
+number f = familyPlace 0 0 0 0 f .0
 
 -- its rows
 abbrev pub rowsOf : (n m : ℕ) → Family → ℕ
-rowsOf n m f = placeOf n m (m * m) (2 ^ m) f .1
+rowsOf n m f = familyPlace n m (m * m) (2 ^ m) f .1
 
 -- its columns
 abbrev pub columnsOf : (n m : ℕ) → Family → ℕ
-columnsOf n m f = placeOf n m (m * m) (2 ^ m) f .2
+columnsOf n m f = familyPlace n m (m * m) (2 ^ m) f .2
 
 -- the families by their numbers
 abbrev pub families : List Family
@@ -156,8 +156,8 @@ abbrev pub Flow : ℕ → Name
 Flow l = at Flows l 0
 
 -- the price of pool p, 0 if it has none
-abbrev pub PoolPrice : ℕ → Name
-PoolPrice p = at Prices p 0
+abbrev pub PriceOfPool : ℕ → Name
+PriceOfPool p = at Prices p 0
 
 -- 1 if pool p has a price, else 0
 abbrev pub Presence : ℕ → Name

@@ -18,9 +18,9 @@ module _ (n m : ℕ) where
   cellOf c = address (rowsOf n m) (columnsOf n m) c
 
   -- the table's orders by cell numbers
-  abbrev pub numbered : List (OrderOn ℕ)
-  numbered = map (renamed cellOf) (flat (table n m))
+  abbrev pub cellOrders : List (OrderOn ℕ)
+  cellOrders = map (renamed cellOf) (flat (table n m))
 
   -- the plan: these as the machine's orders
   unfoldable pub plan : List Order
-  plan = map orderOf numbered
+  plan = map orderOf cellOrders

@@ -42,7 +42,7 @@ module _ {A : Type 0} where
   abbrev pub noPart : PartOf A
   noPart = part 0 0 (λ i j. []) (λ i j. refl)
 
-  -- and such a phase
+  -- a phase of nothing
   abbrev pub noPhase : PhaseOf A
   noPhase = phase 0 []
 
@@ -57,10 +57,10 @@ module _ {A : Type 0} where
   -- ---- the list
 
   -- lists one after another, nested to the right, with no empty list at the end
-  abbrev pub joined : List (List A) → List A
-  joined [] = []
-  joined (x ∷ []) = x
-  joined (x ∷ (y ∷ l)) = x ++ joined (y ∷ l)
+  abbrev pub chained : List (List A) → List A
+  chained [] = []
+  chained (x ∷ []) = x
+  chained (x ∷ (y ∷ l)) = x ++ chained (y ∷ l)
 
   -- a part in row i
   abbrev pub stretch : ℕ → PartOf A → List A
@@ -68,7 +68,7 @@ module _ {A : Type 0} where
 
   -- row i of a phase
   abbrev pub rowOf : PhaseOf A → ℕ → List A
-  rowOf p i = joined (map (stretch i) (p .parts))
+  rowOf p i = chained (map (stretch i) (p .parts))
 
   -- all rows of a phase
   abbrev pub allRows : PhaseOf A → List A
@@ -76,7 +76,7 @@ module _ {A : Type 0} where
 
   -- the whole list: all phases
   abbrev pub flat : List (PhaseOf A) → List A
-  flat ps = joined (map allRows ps)
+  flat ps = chained (map allRows ps)
 
   -- ---- sizes
 
@@ -114,7 +114,7 @@ module _ {A : Type 0} where
       append-nil (a ∷ l) = ap (λ (t : List A). a ∷ t) (append-nil l)
   loop-shift (suc k) f = ap (λ (l : List A). l ++ f (suc k)) (loop-shift k f) ∙ append-assoc (f 0) (loop k (λ i. f (suc i))) (f (suc k))
 
-  joined-loop : {B : Type 0} (g : B → List A) (d : B) (l : List B) → joined (map g l) ≡ loop (length l) (λ q. g (getD l q d))
+  joined-loop : {B : Type 0} (g : B → List A) (d : B) (l : List B) → chained (map g l) ≡ loop (length l) (λ q. g (getD l q d))
   joined-loop g d [] = refl
   joined-loop g d (x ∷ []) = refl
   joined-loop g d (x ∷ (y ∷ l)) =
@@ -163,7 +163,7 @@ module _ {A : Type 0} where
     is = λ d. getD-append-add a b x d ∙ h .is d;
   }
 
--- the same of the images under a function
+-- the element at a place of a mapped list
 pub has-map : {A B : Type 0} (f : A → B) (l : List A) (x : ℕ) (o : A) → Has l x o → Has (map f l) x (f o)
 has-map f [] x o h = absurd (not-suc-le-zero (h .inside))
 has-map f (a ∷ l) zero o h = record { inside = rw length-map (h .inside); is = λ d. ap f (h .is a) }
@@ -189,7 +189,7 @@ module _ {A : Type 0} where
         go (inl e) ih = rw (e, ← loop-length k (λ q u. h q (omega arith))) (has-right (loop k f) (f k) r o (rw e at b))
         go (inr l) ih = has-left (loop k f) (f k) _ o (ih l)
 
-  -- the same where all blocks are of one length
+  -- where all blocks are of one length, a place is a product and a rest
   pub in-even : (f : ℕ → List A) (s k : ℕ) → ((i : ℕ) → length (f i) ≡ s) → (i r : ℕ) (o : A) → i < k → Has (f i) r o → Has (loop k f) (i * s + r) o
   in-even f s k h i r o a b = rw (← sum-same i s) (in-loop f (λ _. s) k (λ q _. h q) i r o a b)
 
@@ -272,7 +272,7 @@ module _ {A : Type 0} where
   parts-imply P Q g k [] h = tt
   parts-imply P Q g k (t ∷ ts) h = ((λ i j a b. all-imply P Q g (t .block i j) (h .0 i j a b)), parts-imply P Q g k ts (h .1))
 
-  -- the same, and one phase more at the end
+  -- what follows from P holds of all phases, and of one more at the end
   pub each-last : (P Q : A → Type 0) → ((a : A) → P a → Q a) → (ps : List (PhaseOf A)) → EachPhase P ps → (p : PhaseOf A) → EachPart Q (p .rows) (p .parts)
       → EachPhase Q (ps ++ (p ∷ []))
   each-last P Q g [] h p l = (l, tt)

@@ -21,7 +21,7 @@ use Rattle.plan.specs.Phased.{rowSize, tableSize, flat, flat-length, Has
 use Rattle.plan.specs.Table.{zeroPhase, work, table}
 unfoldable pub use Rattle.plan.specs.Table.{scratchCount}
 unfoldable pub use Rattle.plan.specs.Numbered.{from, plan}
-pub use Rattle.plan.specs.Numbered.{cellOf, numbered}
+pub use Rattle.plan.specs.Numbered.{cellOf, cellOrders}
 use Rattle.plan.specs.Proper.{Valid, Proper, work-each}
 
 -- how many sets of pools there are at most
@@ -57,7 +57,7 @@ module _ (n m : ℕ) where
 
   pub plan-length : length (plan n m) ≡ tableSize (table n m)
   unfolding plan
-  plan-length = length-map (numbered n m) orderOf ∙ length-map (flat (table n m)) (renamed (cellOf n m)) ∙ flat-length (table n m)
+  plan-length = length-map (cellOrders n m) orderOf ∙ length-map (flat (table n m)) (renamed (cellOf n m)) ∙ flat-length (table n m)
 
   -- in closed form
   size-closed : tableSize (table n m) ≡ n * n * (1 + 2 * m) + n * (29 + 17 * m + 12 * 2 ^ m) + (8 + 11 * m + 2 * (m * m) + 2 ^ m * (7 + 6 * (m * m)))
@@ -85,7 +85,7 @@ module _ (n m : ℕ) where
 
   pub plan-has : (x : ℕ) (o : OrderOn Name) → Has (flat (table n m)) x o → Has (plan n m) x (orderOf (renamed (cellOf n m) o))
   unfolding plan
-  plan-has x o h = has-map orderOf (numbered n m) x (renamed (cellOf n m) o) (has-map (renamed (cellOf n m)) (flat (table n m)) x o h)
+  plan-has x o h = has-map orderOf (cellOrders n m) x (renamed (cellOf n m) o) (has-map (renamed (cellOf n m)) (flat (table n m)) x o h)
 
   -- ---- every order is one of the machine's, and writes a result or scratch
 
@@ -145,7 +145,7 @@ module _ (n m : ℕ) where
       go comparing = (p .0 .1, p .2 .1, p .3 .1)
       go equating = (p .0 .1, p .2 .1, p .3 .1)
 
-  pub numbered-writes : n ≤ bidLimit → m ≤ poolLimit → All WritesWell (numbered n m)
+  pub numbered-writes : n ≤ bidLimit → m ≤ poolLimit → All WritesWell (cellOrders n m)
   numbered-writes h k =
       all-map PlacedOrder WritesWell (renamed (cellOf n m)) placed-writes (flat (table n m)) (each-flat PlacedOrder (table n m) (table-placed h k))
 
@@ -173,5 +173,5 @@ WritesNoInput n m o = WellFormed o × (firstResult n m ≤ targetOf o)
 pub plan-writes-no-input : (n m : ℕ) → n ≤ bidLimit → m ≤ poolLimit → All (WritesNoInput n m) (plan n m)
 unfolding plan
 plan-writes-no-input n m h k =
-    all-map (WritesWell n m) (WritesNoInput n m) orderOf (λ o w. (w .1, rw (target-is o) (w .0 .0))) (numbered n m)
+    all-map (WritesWell n m) (WritesNoInput n m) orderOf (λ o w. (w .1, rw (target-is o) (w .0 .0))) (cellOrders n m)
     (numbered-writes n m h k)

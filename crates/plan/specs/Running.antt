@@ -54,7 +54,7 @@ accumulate J c n f v turn s j b =
     let r : J (run (f i) t) × (run (f i) t c ≡ t c + v i) = turn i l t (ih .0) (omega (arith, ih .1, sum-prefix (suc i) n v l)) in
     (r .0, omega (arith, r .1, ih .1)))
 
--- the same, from 0
+-- a sum from 0: the cell is cleared first
 pub gather : (J : State → Type 0) (c : Name) (l : List (OrderOn Name)) (v : ℕ) → ((t : State) → J t → J (run (constant c 0 ∷ []) t)) → Adds J c l v
     → (s : State) → J s → v < modulus → J (run (constant c 0 ∷ l) s) × (run (constant c 0 ∷ l) s c ≡ v)
 gather J c l v start adds s j b =

@@ -12,7 +12,7 @@ unfoldable pub use Rattle.theory.specs.Subsets.{member}
 unfoldable pub use Rattle.theory.specs.ClosedForms.{subsetSum}
 pub use Rattle.theory.specs.ClosedForms.{leaves}
 
--- the pools that are not in S
+-- the pools that are not in S, as a number
 abbrev pub complement : (m S : ℕ) → ℕ
 complement m S = 2 ^ m - 1 - S
 

@@ -7,8 +7,8 @@ use Rattle.definitions.specs.Book.{Book, pool, price, quantity, size, capacity}
 use Rattle.laws.specs.AcceptedBook.{poolIndex}
 use Rattle.plan.specs.Holds.{Tables}
 use Rattle.plan.specs.Names.{Family, Bids, Capacities, Amounts, Flows, Prices, Temporaries, ZeroCells, Units, Shifts, PoolNumbers, Sides, Sizes, PositivePrices, Doubles, Keys, Nexts, Memberships, PoolSizes, Demands, Subsets, Cuts, SizesBefore, RanksBefore, SizesWith, RanksWith, Uses, Placements, Slacks, Offers, HighestOffers, rowsOf, columnsOf}
-pub use Rattle.theory.specs.ClosedForms.{rate, side, key, weight, takenOf, lineFlow, closedPrice, closedPresence}
-unfoldable pub use Rattle.theory.specs.ClosedForms.{demand, cut, ahead, reach, rank, usedAmount, acceptedAmount, placement, slack, restOf, flowOf, slackAfter, offer, peak}
+pub use Rattle.theory.specs.ClosedForms.{positivePrice, side, key, poolSize, takenOf, lineFlow, closedPrice, closedPresence}
+unfoldable pub use Rattle.theory.specs.ClosedForms.{demand, cut, sizeBefore, sizeWith, rank, usedAmount, acceptedAmount, placement, slack, restOf, flowOf, slackAfter, offer, highestOffer}
 
 module _ (B : Book) where
   -- the bid table as sealed
@@ -36,25 +36,25 @@ module _ (B : Book) where
   valueOf PoolNumbers p j = suc p
   valueOf Sides i j = side B i
   valueOf Sizes i j = size B i
-  valueOf PositivePrices i j = rate B i
-  valueOf Doubles i j = 2 * rate B i
+  valueOf PositivePrices i j = positivePrice B i
+  valueOf Doubles i j = 2 * positivePrice B i
   valueOf Keys i j = key B i
-  valueOf Nexts i j = 2 * rate B i + 1
+  valueOf Nexts i j = 2 * positivePrice B i + 1
   valueOf Memberships i p = on (eqb (poolIndex B i) p) 1
-  valueOf PoolSizes i p = weight B i p
+  valueOf PoolSizes i p = poolSize B i p
   valueOf Demands p j = demand B p
   valueOf Subsets S j = 0
   valueOf Cuts S j = cut B S
-  valueOf SizesBefore i p = ahead B i p
-  valueOf RanksBefore i j = rank B (ahead B i)
-  valueOf SizesWith i p = reach B i p
-  valueOf RanksWith i j = rank B (reach B i)
+  valueOf SizesBefore i p = sizeBefore B i p
+  valueOf RanksBefore i j = rank B (sizeBefore B i)
+  valueOf SizesWith i p = sizeWith B i p
+  valueOf RanksWith i j = rank B (sizeWith B i)
   valueOf Uses i j = usedAmount B i
   valueOf Placements p j = placement B p
   valueOf Slacks S j = slack B S
   valueOf Offers i j = offer B i
-  valueOf HighestOffers p j = peak B p
+  valueOf HighestOffers p j = highestOffer B p
 
   -- the families with their rows, columns and numbers, for book B
-  abbrev pub tables : Tables
-  tables = record { rows = rowsOf (B .n) (B .m); columns = columnsOf (B .n) (B .m); value = valueOf }
+  abbrev pub cellTables : Tables
+  cellTables = record { rows = rowsOf (B .n) (B .m); columns = columnsOf (B .n) (B .m); value = valueOf }

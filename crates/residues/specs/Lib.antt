@@ -1,3 +1,2 @@
--- Small whole numbers are read back from their residues; a sheet holds residues exactly if no cell is refused.
+-- Small whole numbers are read back from their residues.
 pub mod Residues
-pub mod Cells

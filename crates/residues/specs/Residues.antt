@@ -17,15 +17,15 @@ pub read-residue : (x : ℕ) → x < modulus → read x ≡ reading x
 read-residue x h = rw (lt-ltb x modulus h) refl
 
 -- a residue less p
-pub lowered : (x : ℕ) → x < modulus → pos x -ℤ pos modulus ≡ negsuc (modulus - suc x)
-lowered x h = simp (lt-ltb x modulus h)
+pub less-modulus : (x : ℕ) → x < modulus → pos x -ℤ pos modulus ≡ negsuc (modulus - suc x)
+less-modulus x h = simp (lt-ltb x modulus h)
 
 -- the two ways to read a residue
 pub reads-itself : (x : ℕ) → x ≤ greatestPositive → reading x ≡ pos x
 reads-itself x h = simp (le-ltb greatestPositive x h)
 
 reads-lowered : (x : ℕ) → greatestPositive < x → x < modulus → reading x ≡ negsuc (modulus - suc x)
-reads-lowered x h k = simp (lt-ltb greatestPositive x h) (lowered x k)
+reads-lowered x h k = simp (lt-ltb greatestPositive x h) (less-modulus x k)
 
 pub residue-below : (z : ℤ) → natAbs z ≤ greatestPositive → residue z < modulus
 residue-below (pos v) h = omega arith

@@ -9,7 +9,7 @@ use Rattle.definitions.specs.Answers.{Refusal}
 use Rattle.definitions.specs.Machine.{IsSheet, stepOf, runOf}
 use Rattle.definitions.specs.Bytes.{orderAt, Parsed, noOrders, oneMore, parse}
 use Rattle.codec.specs.Answer.{given, refused, answerAt, answer-found, answer-refused}
-use Rattle.codec.specs.OrderBytes.{OrderRead, order-read}
+use Rattle.codec.specs.OrderShortest.{OrderRead, order-read}
 use Rattle.codec.specs.PlanBytes.{parseRest, rest-start, rest-order, rest-refused}
 use Rattle.machine.specs.Run.{step-sheet}
 

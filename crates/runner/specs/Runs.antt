@@ -14,7 +14,7 @@ use Rattle.definitions.specs.Machine.{IsSheet, runOf, AllWellFormed}
 use Rattle.definitions.specs.Bytes.{Parsed, ordersBytes, parse}
 use Rattle.definitions.specs.Calls.{cellsRefusal, lengthRefusal, runRefusal, runSheet, runCount}
 use Rattle.laws.specs.Refusal.{test-passed, first-refused, first-none, first-left, first-right, unless-none, unless-refused}
-use Rattle.residues.specs.Cells.{accepted-sheet, sheet-accepted}
+use Rattle.judging.specs.Cells.{accepted-sheet, sheet-accepted}
 use Rattle.codec.specs.PlanBytes.{orders-read-back, parsed-well-formed}
 use Rattle.machine.specs.Run.{run-sheet}
 
@@ -74,6 +74,7 @@ run-leaves-sheet sheet bytes e =
 
 -- ---- the bytes of a list of orders
 
+-- the runner accepts the bytes of some orders, leaves their run and counts them
 pub record RunsAs (sheet : List ℕ) (os : List Order) : Type 0 where
   pub refusal : runRefusal sheet (ordersBytes os) ≡ none
   pub cells : runSheet sheet (ordersBytes os) ≡ runOf os sheet

@@ -9,7 +9,7 @@ use lib.IntN.{ℤ, pos, negsuc}
 use Rattle.definitions.specs.Settle.{settleText, unreadableText, refusedText}
 use Rattle.plan.specs.Plan.{plan}
 use Rattle.text.specs.declared.Input.{Input}
-use Rattle.text.specs.Reading.{Reading, reading, startReader, wordEnded, fed, failedRead, answerOf}
+use Rattle.text.specs.Reading.{Reading, readSoFar, startReader, wordEnded, fed, failedRead, stageInput}
 use Rattle.settle.specs.declared.Turn.{Turn}
 use Rattle.settle.specs.declared.Turn.the-variants.{More, Over}
 
@@ -22,7 +22,7 @@ pub record Left : Type 0 where
 
 -- the text ends here
 abbrev pub leftBy : Reading → Left
-leftBy s = record { input = answerOf (wordEnded s .reader .stage); numbers = wordEnded s .numbers }
+leftBy s = record { input = stageInput (wordEnded s .reader .stage); numbers = wordEnded s .numbers }
 
 -- the text breaks off here
 abbrev pub brokenOff : Reading → Left
@@ -33,9 +33,11 @@ pub record Turned : Type 0 where
   pub turn : Turn
   pub numbers : List ℤ
 
+-- the answer is there
 abbrev pub textOver : Left → Turned
 textOver left = record { turn = Over (left .input); numbers = left .numbers }
 
+-- the next turn goes on from here
 abbrev pub textOnward : Reading → Turned
 textOnward s = record { turn = More (s .reader); numbers = s .numbers }
 
@@ -73,6 +75,7 @@ endBefore (negsuc k) rest = false
 endBefore (pos zero) rest = true
 endBefore (pos (suc k)) rest = rest
 
+-- whether one of so many reads has found the end of the input
 unfoldable pub endFound : (turns : ℕ) → (ℕ → ReadAnswer) → Bool
 endFound zero reads = false
 endFound (suc turns) reads = endBefore (reads 0 .got) (endFound turns (laterReads reads))
@@ -80,15 +83,15 @@ endFound (suc turns) reads = endBefore (reads 0 .got) (endFound turns (laterRead
 -- ---- What settle promises
 
 -- how many turns the loop has: as many as a number of 64 bits counts
-abbrev pub turnLimit : ℕ
-turnLimit = 18446744073709551615
+abbrev pub readLimit : ℕ
+readLimit = 18446744073709551615
 
 -- the answer and the numbers stored are those of the text that some reads give, read from its start with `before` stored at first;
 -- no contract can say which bytes a read gives
 pub record ReadWhole (before : List ℤ) (input : Input) (numbers : List ℤ) : Type 0 where
   pub reads : ℕ → ReadAnswer
-  pub answered : input ≡ leftBy (fed (reading startReader before) (textOf turnLimit reads)) .input
-  pub stored : numbers ≡ leftBy (fed (reading startReader before) (textOf turnLimit reads)) .numbers
+  pub answered : input ≡ leftBy (fed (readSoFar startReader before) (textOf readLimit reads)) .input
+  pub stored : numbers ≡ leftBy (fed (readSoFar startReader before) (textOf readLimit reads)) .numbers
 
 -- `unreadable`, or a refusal of the counts
 abbrev pub NothingCleared : (printed : List ℕ) → Type 0
@@ -97,5 +100,5 @@ NothingCleared printed = (printed ≡ unreadableText) ⊎ ((printed ≡ refusedT
 -- what document 01 has printed for the text that some reads give; and nothing is cleared where no read has found its end
 pub record PrintsWhole (printed : List ℕ) : Type 0 where
   pub reads : ℕ → ReadAnswer
-  pub whole : printed ≡ settleText plan (textOf turnLimit reads)
-  pub part : endFound turnLimit reads ≡ false → NothingCleared printed
+  pub whole : printed ≡ settleText plan (textOf readLimit reads)
+  pub part : endFound readLimit reads ≡ false → NothingCleared printed

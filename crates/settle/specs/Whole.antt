@@ -12,12 +12,12 @@ use Rattle.definitions.specs.Settle.{inputText, settleText, settleInput, refuse
 use Rattle.plan.specs.Plan.{plan}
 use Rattle.text.specs.declared.Input.{Input}
 use Rattle.text.specs.declared.Reader.{Reader}
-use Rattle.text.specs.Reading.{Reading, reading, startReader, numberLimit, fed, inputFor}
+use Rattle.text.specs.Reading.{Reading, readSoFar, startReader, tableNumbers, fed, inputFor}
 use Rattle.text.specs.Steps.{fed-append}
 use Rattle.text.specs.Texts.{reads}
 use Rattle.text.specs.Broken.{TurnedAway}
 use Rattle.settle.specs.declared.Turn.the-variants.{More, Over}
-use Rattle.settle.specs.Turns.{leftBy, brokenOff, turned, ReadAnswer, textBefore, textOf, turnLimit, ReadWhole, NothingCleared, PrintsWhole}
+use Rattle.settle.specs.Turns.{leftBy, brokenOff, turned, ReadAnswer, textBefore, textOf, readLimit, ReadWhole, NothingCleared, PrintsWhole}
 use Rattle.settle.specs.Parts.{part-turned-away}
 
 -- ---- Reading
@@ -25,14 +25,15 @@ use Rattle.settle.specs.Parts.{part-turned-away}
 -- however the reads go on with so many turns left, there are reads from the start that lead to the same
 pub record Led (before : List ℤ) (s : Reading) (turns : ℕ) (rest : ℕ → ReadAnswer) : Type 0 where
   pub reads : ℕ → ReadAnswer
-  pub same : fed (reading startReader before) (textOf turnLimit reads) ≡ fed s (textOf turns rest)
+  pub same : fed (readSoFar startReader before) (textOf readLimit reads) ≡ fed s (textOf turns rest)
 
+-- some reads from the start have led to this reader and these numbers
 abbrev pub SoFar : (before : List ℤ) (reader : Reader) (numbers : List ℤ) (turns : ℕ) → Type 0
-SoFar before reader numbers turns = (rest : ℕ → ReadAnswer) → Led before (reading reader numbers) turns rest
+SoFar before reader numbers turns = (rest : ℕ → ReadAnswer) → Led before (readSoFar reader numbers) turns rest
 
 -- no turn yet
-pub no-turn : (before : List ℤ) (reader : Reader) → reader ≡ startReader → SoFar before reader before turnLimit
-no-turn before reader e rest = record { reads = rest; same = ap (λ (r : Reader). fed (reading r before) (textOf turnLimit rest)) (sym e) }
+pub no-turn : (before : List ℤ) (reader : Reader) → reader ≡ startReader → SoFar before reader before readLimit
+no-turn before reader e rest = record { reads = rest; same = ap (λ (r : Reader). fed (readSoFar r before) (textOf readLimit rest)) (sym e) }
 
 -- a read, then others
 abbrev pub readFirst : ReadAnswer → (ℕ → ReadAnswer) → (ℕ → ReadAnswer)
@@ -41,7 +42,7 @@ readFirst r rest (suc i) = rest i
 
 -- a turn that leads on
 more-fed : (s : Reading) (got : ℤ) (piece : List ℕ) (next : Reader) (stored : List ℤ) (rest : List ℕ) → turned s got piece .turn ≡ More next
-    → stored ≡ turned s got piece .numbers → fed s (textBefore got piece rest) ≡ fed (reading next stored) rest
+    → stored ≡ turned s got piece .numbers → fed s (textBefore got piece rest) ≡ fed (readSoFar next stored) rest
 unfolding turned
 more-fed s (negsuc k) piece next stored rest e f = let z : _≡_ {A = ℕ} 0 1 = cc in absurd (omega arith)
 more-fed s (pos zero) piece next stored rest e f = let z : _≡_ {A = ℕ} 0 1 = cc in absurd (omega arith)
@@ -50,7 +51,7 @@ more-fed s (pos (suc k)) piece next stored rest e f =
     rw (q, f) (sym (fed-append (take (suc k) piece) rest s))
 
 pub turn-onward : (before : List ℤ) (reader next : Reader) (numbers stored : List ℤ) (turns left : ℕ) (got : ℤ) (piece : List ℕ) → SoFar before reader numbers turns
-    → turns ≡ suc left → turned (reading reader numbers) got piece .turn ≡ More next → stored ≡ turned (reading reader numbers) got piece .numbers
+    → turns ≡ suc left → turned (readSoFar reader numbers) got piece .turn ≡ More next → stored ≡ turned (readSoFar reader numbers) got piece .numbers
     → SoFar before next stored left
 unfolding textOf
 turn-onward before reader next numbers stored turns left got piece s t e f rest =
@@ -60,8 +61,8 @@ turn-onward before reader next numbers stored turns left got piece s t e f rest 
       reads = led .reads;
       same =
           led .same
-          ∙ ap (λ (k : ℕ). fed (reading reader numbers) (textOf k (readFirst r rest))) t
-          ∙ more-fed (reading reader numbers) got piece next stored (textOf left rest) e f;
+          ∙ ap (λ (k : ℕ). fed (readSoFar reader numbers) (textOf k (readFirst r rest))) t
+          ∙ more-fed (readSoFar reader numbers) got piece next stored (textOf left rest) e f;
     }
 
 -- a turn that ends the text
@@ -75,7 +76,7 @@ over-left s (pos (suc k)) piece input stored rest e f = let z : _≡_ {A = ℕ} 
 
 -- what the text leaves is what it leaves from the start
 text-over : (before : List ℤ) (reader : Reader) (numbers : List ℤ) (turns : ℕ) (rest : ℕ → ReadAnswer) (input : Input) (stored : List ℤ) → SoFar before reader numbers turns
-    → (input ≡ leftBy (fed (reading reader numbers) (textOf turns rest)) .input) × (stored ≡ leftBy (fed (reading reader numbers) (textOf turns rest)) .numbers)
+    → (input ≡ leftBy (fed (readSoFar reader numbers) (textOf turns rest)) .input) × (stored ≡ leftBy (fed (readSoFar reader numbers) (textOf turns rest)) .numbers)
     → ReadWhole before input stored
 text-over before reader numbers turns rest input stored s e =
     let led = s rest in
@@ -86,17 +87,17 @@ text-over before reader numbers turns rest input stored s e =
     }
 
 pub turn-over : (before : List ℤ) (reader : Reader) (numbers stored : List ℤ) (turns left : ℕ) (got : ℤ) (piece : List ℕ) (input : Input) → SoFar before reader numbers turns
-    → turns ≡ suc left → turned (reading reader numbers) got piece .turn ≡ Over input → stored ≡ turned (reading reader numbers) got piece .numbers
+    → turns ≡ suc left → turned (readSoFar reader numbers) got piece .turn ≡ Over input → stored ≡ turned (readSoFar reader numbers) got piece .numbers
     → ReadWhole before input stored
 unfolding textOf
 turn-over before reader numbers stored turns left got piece input s t e f =
     let r : ReadAnswer = record { got = got; piece = piece } in
     text-over before reader numbers turns (λ i. r) input stored s
-    (rw t (over-left (reading reader numbers) got piece input stored (textOf left (λ i. r)) e f))
+    (rw t (over-left (readSoFar reader numbers) got piece input stored (textOf left (λ i. r)) e f))
 
 -- no turn is left
 pub turns-over : (before : List ℤ) (reader : Reader) (numbers stored : List ℤ) (turns : ℕ) (input : Input) → SoFar before reader numbers turns
-    → turns ≡ 0 → input ≡ brokenOff (reading reader numbers) .input → stored ≡ brokenOff (reading reader numbers) .numbers
+    → turns ≡ 0 → input ≡ brokenOff (readSoFar reader numbers) .input → stored ≡ brokenOff (readSoFar reader numbers) .numbers
     → ReadWhole before input stored
 unfolding textOf
 turns-over before reader numbers stored turns input s t e f =
@@ -111,10 +112,10 @@ nothing-cleared printed settle.unreadable e t = inl e
 nothing-cleared printed (settle.refused r) e (inl q) = inr (inl (e ∙ ap (λ (s : Refusal). refusedText (numberOf s) (placeOf s)) q))
 nothing-cleared printed (settle.refused r) e (inr q) = inr (inr (e ∙ ap (λ (s : Refusal). refusedText (numberOf s) (placeOf s)) q))
 
-pub prints-whole : (before : List ℤ) (input : Input) (numbers : List ℤ) (printed : List ℕ) → length before ≡ numberLimit
+pub prints-whole : (before : List ℤ) (input : Input) (numbers : List ℤ) (printed : List ℕ) → length before ≡ tableNumbers
     → ReadWhole before input numbers → printed ≡ inputText plan (inputFor input numbers) → PrintsWhole printed
 unfolding settleText
 prints-whole before input numbers printed long w p =
-    let text = textOf turnLimit (w .reads) in
+    let text = textOf readLimit (w .reads) in
     let whole : printed ≡ inputText plan (settleInput text) = p ∙ rw (w .answered, w .stored) (ap (inputText plan) (reads before text long)) in
-    record { reads = w .reads; whole = whole; part = λ e. nothing-cleared printed (settleInput text) whole (part-turned-away turnLimit (w .reads) e) }
+    record { reads = w .reads; whole = whole; part = λ e. nothing-cleared printed (settleInput text) whole (part-turned-away readLimit (w .reads) e) }

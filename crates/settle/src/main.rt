@@ -6,7 +6,7 @@ ghost use lib.ListN.{take};
 ghost use Rattle.definitions.specs.Settle.{inputText};
 ghost use Rattle.io.specs.Counts.{Counts};
 ghost use Rattle.plan.specs.Plan.{plan};
-ghost use Rattle.text.specs.Reading.{reading, inputFor};
+ghost use Rattle.text.specs.Reading.{readSoFar, inputFor};
 ghost use Rattle.settle.specs.Turns.{turned, ReadWhole, PrintsWhole};
 use definitions::Limits;
 use libc::STDIN_FILENO;
@@ -24,8 +24,8 @@ enum Turn {
 
 // One turn: `got` is what a read answered, and its bytes stand at the start of piece. Below 0 it failed, and 0 is the end of the input.
 fn take_turn(reader: Reader, got: isize, piece: &[u8], numbers: &mut [i32; Reader::NUMBERS]) -> Turn
-    ensures { λ r. ⌜ r ≡ turned (reading reader (now (numbers .entry))) got (now (piece .entry)) .turn ⌝ }
-    ensures { λ _. ⌜ now (numbers .exit) ≡ turned (reading reader (now (numbers .entry))) got (now (piece .entry)) .numbers ⌝ }
+    ensures { λ r. ⌜ r ≡ turned (readSoFar reader (now (numbers .entry))) got (now (piece .entry)) .turn ⌝ }
+    ensures { λ _. ⌜ now (numbers .exit) ≡ turned (readSoFar reader (now (numbers .entry))) got (now (piece .entry)) .numbers ⌝ }
 {
     if got < 0 {
         return Turn::Over(reader.break_off(numbers));

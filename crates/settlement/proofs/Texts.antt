@@ -21,7 +21,7 @@ use Rattle.listing.specs.Text.{textRoom, textSize, textSlice, refusedSize, refu
 use Rattle.plan.specs.Plan.{plan}
 use Rattle.settlement.specs.Opens.{plan-opens}
 use Rattle.settlement.specs.Settled.{settledText, settledSize, settledSlice, settledSheet}
-use Rattle.settlement.specs.Settles.{settled-counts}
+use Rattle.settlement.specs.WholeText.{settled-counts}
 
 -- ---- One text, written as it is defined
 

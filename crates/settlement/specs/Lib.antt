@@ -1,5 +1,5 @@
 -- What settle prints for a text that was read, and for every text.
 pub mod Opens
 pub mod Settled
-pub mod Settles
+pub mod WholeText
 pub mod Printed

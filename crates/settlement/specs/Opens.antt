@@ -11,11 +11,11 @@ use Rattle.definitions.specs.Calls.{AcceptedBook, sealRefusal, countsRefusal, o
 use Rattle.definitions.specs.Outcome.{planRun}
 use Rattle.laws.specs.Refusal.{first-left}
 use Rattle.laws.specs.AcceptedBook.{Sound, accepted-sound}
-use Rattle.residues.specs.Cells.{sheet-accepted}
+use Rattle.judging.specs.Cells.{sheet-accepted}
 use Rattle.machine.specs.Run.{run-sheet}
 use Rattle.plan.specs.Plan.{plan}
-use Rattle.plan.specs.List.{plan-orders}
-use Rattle.clearing.specs.SealedSheet.{sealed-is-sheet}
+use Rattle.plan.specs.PlanOrders.{plan-orders}
+use Rattle.plan.specs.SealedSheet.{sealed-is-sheet}
 
 module _ (B : Book) (accepted : AcceptedBook B) where
   pub run-is-sheet : IsSheet (planRun plan B)

@@ -12,7 +12,7 @@ ghost use Rattle.definitions.specs.Settle.{listing, readable, refused, settleIn
 ghost use Rattle.definitions.specs.Sheet.{resultCount};
 ghost use Rattle.listing.specs.Text.{textRoom, textSize, textSlice};
 ghost use Rattle.plan.specs.Plan.{plan};
-ghost use Rattle.text.specs.Reading.{numberLimit, inputFor};
+ghost use Rattle.text.specs.Reading.{tableNumbers, inputFor};
 ghost use Rattle.settlement.specs.Settled.{settledSize, settledSlice, settledSheet, tablesOf, Prints};
 use clearing::clear;
 use definitions::Limits;
@@ -98,7 +98,7 @@ fn settle_book(
 
 // The same of the tables that a text gave: first the numbers of the bids, then those of the capacities.
 fn settle_tables(n: usize, m: usize, numbers: &[i32], sheet: &mut [u32], out: &mut [u8]) -> usize
-    requires { ⌜ length (now numbers) ≡ numberLimit ⌝ }
+    requires { ⌜ length (now numbers) ≡ tableNumbers ⌝ }
     ensures size { λ r. ⌜ r ≡ settledSize plan (tablesOf n m (now (numbers .entry))) (length (now (sheet .entry))) (length (now (out .entry))) ⌝ }
     ensures cells { λ _. ⌜ now (sheet .exit) ≡ settledSheet plan (tablesOf n m (now (numbers .entry))) (length (now (out .entry))) (now (sheet .entry)) ⌝ }
     ensures bytes { λ _. ⌜ now (out .exit) ≡ settledSlice plan (tablesOf n m (now (numbers .entry))) (length (now (sheet .entry))) (now (out .entry)) ⌝ }

@@ -14,18 +14,18 @@ use Rattle.definitions.specs.Limits.{bidLimit, poolLimit, bidNumbers}
 use Rattle.definitions.specs.Book.{book}
 use Rattle.definitions.specs.Answers.{none, refuse}
 use Rattle.definitions.specs.Calls.{countsRefusal}
-use Rattle.definitions.specs.Settle.{Whole, noNumber, whole, wholeOf, Numbers, noNumbers, numbers, numbersOf}
+use Rattle.definitions.specs.Settle.{Whole, noNumber, whole, wholeOf, Numbers, noNumbers, numbers, wordNumbers}
 use Rattle.definitions.specs.Settle.{Input, unreadable, refused, readable, tables, afterCounts, withCounts, inputOf, words, settleInput}
-use Rattle.text.specs.declared.Word.{Word}
-use Rattle.text.specs.declared.Word.the-variants.{Empty, Minus, Digits, NoNumber}
-use Rattle.text.specs.declared.Ended.{Ended}
-use Rattle.text.specs.declared.Ended.the-variants.{Nothing, Fault, Number}
-use Rattle.text.specs.declared.Stage.{Stage}
-use Rattle.text.specs.declared.Stage.the-variants as stage
+use Rattle.text.specs.declared.words.Word.{Word}
+use Rattle.text.specs.declared.words.Word.the-variants.{Empty, Minus, Digits, NoNumber}
+use Rattle.text.specs.declared.words.Ended.{Ended}
+use Rattle.text.specs.declared.words.Ended.the-variants.{Nothing, Fault, Number}
+use Rattle.text.specs.declared.stages.Stage.{Stage}
+use Rattle.text.specs.declared.stages.Stage.the-variants as stage
 use Rattle.text.specs.declared.Input as answer
 use Rattle.text.specs.declared.Input.the-variants as answers
 use Rattle.text.specs.Words.{grownBy, endedOf}
-use Rattle.text.specs.Reading.{Reading, reading, startReader, takenBy, wordEnded, stepped, fed, failedRead, answerOf, inputFor}
+use Rattle.text.specs.Reading.{Reading, readSoFar, startReader, takenBy, wordEnded, afterByte, fed, failedRead, stageInput, inputFor}
 use Rattle.text.specs.Steps.{fed-append}
 use Rattle.text.specs.Texts.{noneStored, wholeRead, reads}
 
@@ -55,7 +55,7 @@ counts-refuse n m rest = go (ltb bidLimit n) (eqb m 0 || ltb poolLimit m)
     go : (t u : Bool) → CountsOnly (afterCounts n m (cond t (refuse 1 0) (cond u (refuse 2 0) none)) rest)
     go true u = inl refl
     go false true = inr refl
-    go false false = tables-refuse-nothing n m (numbersOf rest)
+    go false false = tables-refuse-nothing n m (wordNumbers rest)
 
 both-refuse : (n m : Whole) (rest : List (List ℕ)) → CountsOnly (withCounts n m rest)
 both-refuse noNumber m rest = tt
@@ -82,28 +82,28 @@ no-number Minus = refl
 no-number (Digits negative value) = refl
 no-number NoNumber = refl
 
--- and once the answer is known it stays
-unreadable-stays : (e : Ended) → NoBook (answerOf (takenBy stage.Unreadable e))
+-- once the answer is known it stays
+unreadable-stays : (e : Ended) → NoBook (stageInput (takenBy stage.Unreadable e))
 unreadable-stays Nothing = tt
 unreadable-stays Fault = tt
 unreadable-stays (Number z) = tt
 
-refused-stays : (verdict : Verdict) (e : Ended) → NoBook (answerOf (takenBy (stage.Refused verdict) e))
+refused-stays : (verdict : Verdict) (e : Ended) → NoBook (stageInput (takenBy (stage.Refused verdict) e))
 refused-stays verdict Nothing = tt
 refused-stays verdict Fault = tt
 refused-stays verdict (Number z) = tt
 
-stepped-no-book : (word : Word) (s : Stage) (stored : List ℤ) → NoBook (answerOf (wordEnded (stepped (reading (record { word = word; stage = s }) stored) 63) .reader .stage))
-unfolding stepped wordEnded
-stepped-no-book word stage.First stored = rw (no-number word) tt
-stepped-no-book word (stage.Second n) stored = rw (no-number word) tt
-stepped-no-book word (stage.Tables n m read) stored = rw (no-number word) tt
-stepped-no-book word stage.Unreadable stored = unreadable-stays (endedOf word)
-stepped-no-book word (stage.Refused verdict) stored = refused-stays verdict (endedOf word)
+byte-no-book : (word : Word) (s : Stage) (stored : List ℤ) → NoBook (stageInput (wordEnded (afterByte (readSoFar (record { word = word; stage = s }) stored) 63) .reader .stage))
+unfolding afterByte wordEnded
+byte-no-book word stage.First stored = rw (no-number word) tt
+byte-no-book word (stage.Second n) stored = rw (no-number word) tt
+byte-no-book word (stage.Tables n m read) stored = rw (no-number word) tt
+byte-no-book word stage.Unreadable stored = unreadable-stays (endedOf word)
+byte-no-book word (stage.Refused verdict) stored = refused-stays verdict (endedOf word)
 
-broken-no-book : (s : Reading) → NoBook (answerOf (wordEnded (fed s failedRead) .reader .stage))
+broken-no-book : (s : Reading) → NoBook (stageInput (wordEnded (fed s failedRead) .reader .stage))
 unfolding fed
-broken-no-book s = stepped-no-book (s .reader .word) (s .reader .stage) (s .numbers)
+broken-no-book s = byte-no-book (s .reader .word) (s .reader .stage) (s .numbers)
 
 -- refused by its counts only, and no book
 no-book-to-clear : (a : answer.Input) (stored : List ℤ) (i : Input) → inputFor a stored ≡ i → NoBook a → CountsOnly i → TurnedAway i
@@ -116,8 +116,8 @@ no-book-to-clear (answers.Ready n m) stored (readable B) e b c = b
 pub broken-turned-away : (text : List ℕ) → TurnedAway (settleInput (text ++ failedRead))
 unfolding settleInput
 broken-turned-away text =
-    let s = fed (reading startReader noneStored) text in
+    let s = fed (readSoFar startReader noneStored) text in
     let read = wholeRead noneStored (text ++ failedRead) in
-    no-book-to-clear (answerOf (read .reader .stage)) (read .numbers) (settleInput (text ++ failedRead)) (reads noneStored (text ++ failedRead) refl)
-    (subst (λ (r : Reading). NoBook (answerOf (wordEnded r .reader .stage))) (fed-append text failedRead (reading startReader noneStored)) (broken-no-book s))
+    no-book-to-clear (stageInput (read .reader .stage)) (read .numbers) (settleInput (text ++ failedRead)) (reads noneStored (text ++ failedRead) refl)
+    (subst (λ (r : Reading). NoBook (stageInput (wordEnded r .reader .stage))) (fed-append text failedRead (readSoFar startReader noneStored)) (broken-no-book s))
     (words-refuse (words (text ++ failedRead)))

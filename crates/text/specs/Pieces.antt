@@ -5,7 +5,7 @@ use mathlib.Core.List.{List, [], _∷_, _++_}
 use lib.ListN.{length}
 use lib.IntN.{ℤ}
 use Rattle.definitions.specs.Settle.{Input, settleInput}
-use Rattle.text.specs.Reading.{Reading, reading, startReader, numberLimit, wordEnded, fed, answerOf, inputFor}
+use Rattle.text.specs.Reading.{Reading, readSoFar, startReader, tableNumbers, wordEnded, fed, stageInput, inputFor}
 use Rattle.text.specs.Steps.{fed-append}
 use Rattle.text.specs.Texts.{reads}
 
@@ -22,15 +22,15 @@ joined (piece ∷ pieces) = piece ++ joined pieces
 -- what is answered once the last piece is fed and the text has ended, with `before` stored at first
 abbrev pub piecesRead : (before : List ℤ) (pieces : List (List ℕ)) → Input
 piecesRead before pieces =
-    let read = wordEnded (fedPieces (reading startReader before) pieces) in
-    inputFor (answerOf (read .reader .stage)) (read .numbers)
+    let read = wordEnded (fedPieces (readSoFar startReader before) pieces) in
+    inputFor (stageInput (read .reader .stage)) (read .numbers)
 
 pieces-joined : (pieces : List (List ℕ)) (s : Reading) → fedPieces s pieces ≡ fed s (joined pieces)
 unfolding fedPieces joined fed
 pieces-joined [] s = refl
 pieces-joined (piece ∷ pieces) s = pieces-joined pieces (fed s piece) ∙ fed-append piece (joined pieces) s
 
-pub reads-pieces : (before : List ℤ) (pieces : List (List ℕ)) → length before ≡ numberLimit → piecesRead before pieces ≡ settleInput (joined pieces)
+pub reads-pieces : (before : List ℤ) (pieces : List (List ℕ)) → length before ≡ tableNumbers → piecesRead before pieces ≡ settleInput (joined pieces)
 reads-pieces before pieces l =
-    ap (λ (s : Reading). inputFor (answerOf (wordEnded s .reader .stage)) (wordEnded s .numbers)) (pieces-joined pieces (reading startReader before))
+    ap (λ (s : Reading). inputFor (stageInput (wordEnded s .reader .stage)) (wordEnded s .numbers)) (pieces-joined pieces (readSoFar startReader before))
     ∙ reads before (joined pieces) l

@@ -8,11 +8,11 @@ use lib.Dec.{ltb, leb, eqb}
 use lib.IntN.{ℤ, pos, negsuc, negℤ}
 use borrow.Author.Tests.{ltb-true, ltb-false, lt-ltb, le-ltb, le-leb, lt-leb}
 use Rattle.definitions.specs.Settle.{Whole, noNumber, whole, digitsFrom, digits, signed, fitting32, wholeOf}
-use Rattle.text.specs.declared.Word.{Word}
-use Rattle.text.specs.declared.Word.the-variants.{Empty, Minus, Digits, NoNumber}
-use Rattle.text.specs.declared.Ended.{Ended}
-use Rattle.text.specs.declared.Ended.the-variants.{Fault, Number}
-use Rattle.text.specs.Words.{greatest, least, beyond, capped, grownBy, signedOf, endedOf}
+use Rattle.text.specs.declared.words.Word.{Word}
+use Rattle.text.specs.declared.words.Word.the-variants.{Empty, Minus, Digits, NoNumber}
+use Rattle.text.specs.declared.words.Ended.{Ended}
+use Rattle.text.specs.declared.words.Ended.the-variants.{Fault, Number}
+use Rattle.text.specs.Words.{greatestSize, leastSize, beyond, capped, grownBy, signedOf, endedOf}
 
 -- ---- A saturated value stays out of range, and any other is exact
 
@@ -50,19 +50,19 @@ negative-capped (suc u) = go (ltb (suc u) beyond) refl
     go : (t : Bool) → ltb (suc u) beyond ≡ t → signedOf true (capped (suc u)) ≡ endedFor (fitting32 (whole (negsuc u)))
     go true e =
         let h = ltb-true (suc u) beyond e in
-        rw (capped-exact (suc u) h, le-leb (suc u) least (omega arith), le-leb u (least - 1) (omega arith)) refl
+        rw (capped-exact (suc u) h, le-leb (suc u) leastSize (omega arith), le-leb u (leastSize - 1) (omega arith)) refl
     go false e =
         let h = ltb-false (suc u) beyond e in
-        rw (capped-beyond (suc u) h, lt-leb u (least - 1) (omega arith)) refl
+        rw (capped-beyond (suc u) h, lt-leb u (leastSize - 1) (omega arith)) refl
 
 positive-capped : (v : ℕ) → signedOf false (capped v) ≡ endedFor (fitting32 (whole (pos v)))
 positive-capped v = go (ltb v beyond) refl
   where
     go : (t : Bool) → ltb v beyond ≡ t → signedOf false (capped v) ≡ endedFor (fitting32 (whole (pos v)))
-    go true e = rw (capped-exact v (ltb-true v beyond e)) (sym (ended-cond (leb v greatest) (pos v)))
+    go true e = rw (capped-exact v (ltb-true v beyond e)) (sym (ended-cond (leb v greatestSize) (pos v)))
     go false e =
         let h = ltb-false v beyond e in
-        rw (capped-beyond v h, lt-leb v greatest (omega arith)) refl
+        rw (capped-beyond v h, lt-leb v greatestSize (omega arith)) refl
 
 pub signed-capped : (negative : Bool) (v : ℕ) → signedOf negative (capped v) ≡ endedFor (fitting32 (whole (cond negative (negℤ (pos v)) (pos v))))
 signed-capped true v = negative-capped v
@@ -90,7 +90,9 @@ unfolding wordFrom digitsFrom
 digits-ended negative [] v = signed-capped negative v
 digits-ended negative (byte ∷ bytes) v = go (leb 48 byte && leb byte 57) refl (digits-ended negative bytes)
   where
-    go : (t : Bool) → (leb 48 byte && leb byte 57) ≡ t → ((u : ℕ) → endedOf (wordFrom (Digits negative (capped u)) bytes) ≡ endedFor (fitting32 (digitsFrom negative u bytes))) → endedOf (wordFrom (Digits negative (capped v)) (byte ∷ bytes)) ≡ endedFor (fitting32 (digitsFrom negative v (byte ∷ bytes)))
+    go : (t : Bool) → (leb 48 byte && leb byte 57) ≡ t
+        → ((u : ℕ) → endedOf (wordFrom (Digits negative (capped u)) bytes) ≡ endedFor (fitting32 (digitsFrom negative u bytes)))
+        → endedOf (wordFrom (Digits negative (capped v)) (byte ∷ bytes)) ≡ endedFor (fitting32 (digitsFrom negative v (byte ∷ bytes)))
     go true e onward = rw (e, capped-digit v (byte - 48)) (onward (10 * v + (byte - 48)))
     go false e onward = rw (e, no-number-stays bytes) refl
 

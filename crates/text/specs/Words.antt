@@ -3,21 +3,24 @@ use Prim.Native.Nat.{ℕ, _+_, _-_, _*_}
 use mathlib.Core.Bool.{Bool, true, false, cond, _&&_}
 use lib.Dec.{ltb, leb, eqb}
 use lib.IntN.{pos, negℤ}
-use Rattle.text.specs.declared.Word.{Word}
-use Rattle.text.specs.declared.Word.the-variants.{Empty, Minus, Digits, NoNumber}
-use Rattle.text.specs.declared.Ended.{Ended}
-use Rattle.text.specs.declared.Ended.the-variants.{Nothing, Fault, Number}
+use Rattle.text.specs.declared.words.Word.{Word}
+use Rattle.text.specs.declared.words.Word.the-variants.{Empty, Minus, Digits, NoNumber}
+use Rattle.text.specs.declared.words.Ended.{Ended}
+use Rattle.text.specs.declared.words.Ended.the-variants.{Nothing, Fault, Number}
 
--- sizes of the greatest and of the least number of signed 32 bits, and the value that stands for every size beyond both
-abbrev pub greatest : ℕ
-greatest = 2147483647
+-- the size of the greatest number of signed 32 bits
+abbrev pub greatestSize : ℕ
+greatestSize = 2147483647
 
-abbrev pub least : ℕ
-least = 2147483648
+-- the size of the least
+abbrev pub leastSize : ℕ
+leastSize = 2147483648
 
+-- the value that stands for every size beyond both
 abbrev pub beyond : ℕ
 beyond = 2147483649
 
+-- a size, exact up to there
 abbrev pub capped : ℕ → ℕ
 capped value = cond (ltb value beyond) value beyond
 
@@ -35,9 +38,10 @@ grownBy NoNumber byte = NoNumber
 
 -- a number by its sign and size, if it is within signed 32 bits
 abbrev pub signedOf : (negative : Bool) (value : ℕ) → Ended
-signedOf true value = cond (leb value least) (Number (negℤ (pos value))) Fault
-signedOf false value = cond (leb value greatest) (Number (pos value)) Fault
+signedOf true value = cond (leb value leastSize) (Number (negℤ (pos value))) Fault
+signedOf false value = cond (leb value greatestSize) (Number (pos value)) Fault
 
+-- what a word is once it has ended
 abbrev pub endedOf : Word → Ended
 endedOf Empty = Nothing
 endedOf Minus = Fault

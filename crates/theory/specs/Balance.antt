@@ -1,6 +1,6 @@
 -- Used amounts and flows that balance in each pool keep within every cut, and in all pools together use the whole demand.
 use mathlib.Core.Path.{_≡_, refl, sym, ap, _∙_}
-use mathlib.Core.Bool.{Bool, true, false, not, _&&_}
+use mathlib.Core.Bool.{Bool, true, false, not, _&&_, Bool·not-not}
 use Prim.Native.Nat.{ℕ, _+_, _≤_, _<_}
 use native.Mathlib.Omega.{arith}
 use lib.Dec.{eqb}
@@ -10,20 +10,23 @@ use Rattle.laws.specs.Tests.{Eq?, same, diff, eq?}
 use Rattle.theory.specs.Network.{goesOut, Network, SoundNetwork, demand, leaving, entering, cut, amountIn}
 use Rattle.theory.specs.Choices.{on-monotone, on-not, on-add, on-on, on-and, on-sum}
 
--- the pool p alone, and the pools not in S
+-- the pool p alone
 abbrev pub only : ℕ → ℕ → Bool
 only p = λ q. eqb q p
 
-abbrev pub others : (ℕ → Bool) → ℕ → Bool
-others S = λ q. not (S q)
+-- the pools not in S; plan/specs/Subsets has it for a set that is a number
+abbrev pub complement : (ℕ → Bool) → ℕ → Bool
+complement S = λ q. not (S q)
 
+-- every pool
 abbrev pub all : ℕ → Bool
 all = λ q. true
 
--- the sum of f over the lines that end in S, that start in S
+-- the sum of f over the lines that end in S
 unfoldable pub arriving : Network → (ℕ → ℕ) → (ℕ → Bool) → ℕ
 arriving N f S = sumTo (N .lines) (λ j. on (S (N .target j)) (f j))
 
+-- the sum of f over the lines that start in S
 unfoldable pub departing : Network → (ℕ → ℕ) → (ℕ → Bool) → ℕ
 departing N f S = sumTo (N .lines) (λ j. on (S (N .source j)) (f j))
 
@@ -32,6 +35,33 @@ pub record FeasibleUse (N : Network) (x f : ℕ → ℕ) : Type 0 where
   pub sizes : (i : ℕ) → i < N .bids → x i ≤ N .size i
   pub capacities : (j : ℕ) → j < N .lines → f j ≤ N .capacity j
   pub balance : (p : ℕ) → p < N .pools → amountIn N x (only p) + arriving N f (only p) ≡ demand N (only p) + departing N f (only p)
+
+-- ---- a set of pools and its complement
+
+-- what enters a set leaves its complement, and what leaves it enters the complement
+pub entering-leaving : (N : Network) (f : ℕ → ℕ) (S : ℕ → Bool) → entering N f S ≡ leaving N f (complement S)
+unfolding entering leaving
+entering-leaving N f S = sum-ext _ _ _ (λ j l. ap (λ (t : Bool). on (not (S (N .source j)) && t) (f j)) (sym (Bool·not-not (S (N .target j)))))
+
+pub leaving-entering : (N : Network) (f : ℕ → ℕ) (S : ℕ → Bool) → leaving N f S ≡ entering N f (complement S)
+unfolding entering leaving
+leaving-entering N f S = sum-ext _ _ _ (λ j l. ap (λ (s : Bool). on (s && not (S (N .target j))) (f j)) (sym (Bool·not-not (S (N .source j)))))
+
+-- the two together use what all pools use
+pub amountIn-complement : (N : Network) (x : ℕ → ℕ) (S : ℕ → Bool) → amountIn N x S + amountIn N x (complement S) ≡ amountIn N x all
+unfolding amountIn
+amountIn-complement N x S = sym (sum-add (N .bids) _ _) ∙ sum-ext _ _ _ (λ i l. on-not (S (N .pool i)) (x i))
+
+demand-complement-one : (s t : Bool) (v : ℕ) → on (s && t) v + on (not s && t) v ≡ on (true && t) v
+demand-complement-one true t v = omega arith
+demand-complement-one false t v = omega arith
+
+-- the two together demand what all pools demand
+pub demand-complement : (N : Network) (S : ℕ → Bool) → demand N S + demand N (complement S) ≡ demand N all
+unfolding demand
+demand-complement N S = sym (sum-add (N .bids) _ _) ∙ sum-ext _ _ _ (λ i l. demand-complement-one (S (N .pool i)) (N .purchase i) (N .size i))
+
+-- ---- balance
 
 -- only the bids' own amounts count
 pub amountIn-same : (N : Network) (x y : ℕ → ℕ) → ((i : ℕ) → i < N .bids → x i ≡ y i) → (S : ℕ → Bool) → amountIn N x S ≡ amountIn N y S

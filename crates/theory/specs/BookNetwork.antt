@@ -24,10 +24,11 @@ use Rattle.theory.specs.Grid.{grid, grid-sound, arriving-column, departi
 abbrev pub networkOf : Book → Network
 networkOf B = grid (B .n) (B .m) (λ i. size B i) (λ i. poolIndex B i) (λ i. purchase B i) (λ k. capacity B (k / B .m) (k % B .m))
 
--- flows by pools as flows by lines, and back
+-- flows by pools as flows by lines
 abbrev pub byLines : Book → (ℕ → ℕ → ℕ) → ℕ → ℕ
 byLines B f k = f (k / B .m) (k % B .m)
 
+-- flows by lines as flows by pools
 abbrev pub byPools : Book → (ℕ → ℕ) → ℕ → ℕ → ℕ
 byPools B f a b = f (a * B .m + b)
 

@@ -12,7 +12,8 @@ use Rattle.laws.specs.Sum.{sum-ext, sum-le, sum-add, sum-one, sum-bound}
 use Rattle.theory.specs.Subsets.{member, least}
 use Rattle.theory.specs.Network.{goesOut, comesIn, Network, demand, leaving, cut, _adding_}
 use Rattle.theory.specs.Rank.{rank, cost, outside}
-use Rattle.theory.specs.Flows.{WithinCuts, lineFlow, rest, slack, step-one, rest-leaves, flow-enters, slack-balance}
+use Rattle.theory.specs.Slacks.{lineFlow, rest, slack, step-one, rest-leaves, flow-enters}
+use Rattle.theory.specs.Flows.{WithinCuts, slack-balance}
 use Rattle.theory.specs.Choices.{on-le}
 
 -- the rank is a least over the masks

@@ -21,7 +21,7 @@ use Rattle.theory.specs.Subsets.{member}
 use Rattle.theory.specs.Network as network
 use Rattle.theory.specs.Rank as ranks
 use Rattle.theory.specs.Balance.{by-pool, eqb-symmetric}
-use Rattle.theory.specs.Flows as flows
+use Rattle.theory.specs.Slacks as slacks
 use Rattle.theory.specs.Greatest as greatest
 use Rattle.theory.specs.Welfare.{turn}
 use Rattle.theory.specs.MeritOrder.{merit, key-low, key-high}
@@ -33,7 +33,7 @@ use Rattle.theory.specs.SameClearing.{best-same, permitted-same, first-f
 use Rattle.theory.specs.CutClearing.{cutUsed, cutClearing, within-cuts, cut-best, cut-permitted, cut-first-flows}
 use Rattle.theory.specs.BestClearing.{best-unique}
 use Rattle.theory.specs.PoolPrice.{greatestOf, greatestSale, pool-price-same, price-by-greatest, presence-by-greatest, greatest-sale-small}
-use Rattle.theory.specs.ClosedForms.{leaves, subsetSum, rate, key, weight, demand, cut, ahead, reach, cost, rank, usedAmount, acceptedAmount, placement, slack, restOf, flowOf, takenOf, slackAfter, lineFlow, closedClearing, offer, peak, closedPrice, closedPresence}
+use Rattle.theory.specs.ClosedForms.{leaves, subsetSum, positivePrice, key, poolSize, demand, cut, sizeBefore, sizeWith, cost, rank, usedAmount, acceptedAmount, placement, slack, restOf, flowOf, takenOf, slackAfter, lineFlow, closedClearing, offer, highestOffer, closedPrice, closedPresence}
 
 -- all sizes together
 abbrev pub sizeTotal : ℕ
@@ -68,14 +68,14 @@ sale-one false false u i v e = refl
 module _ (B : Book) (ok : Sound B) where
   -- ---- merit by keys
 
-  before-rate : (j i : ℕ) → j < B .n → i < B .n → before B j i ≡ merit (λ i. rate B i) (λ i. purchase B i) j i
-  before-rate = before-raised B (suc priceLimit) (λ i. rate B i) (λ i l. omega (arith, price-raised B ok i l))
+  before-positive-price : (j i : ℕ) → j < B .n → i < B .n → before B j i ≡ merit (λ i. positivePrice B i) (λ i. purchase B i) j i
+  before-positive-price = before-raised B (suc priceLimit) (λ i. positivePrice B i) (λ i l. omega (arith, price-raised B ok i l))
 
-  pub before-low : (j i : ℕ) → j < B .n → i < B .n → j < i → before B j i ≡ ltb (key B j) (2 * rate B i + 1)
-  before-low j i l r h = before-rate j i l r ∙ key-low (λ i. rate B i) (λ i. purchase B i) j i h
+  pub before-low : (j i : ℕ) → j < B .n → i < B .n → j < i → before B j i ≡ ltb (key B j) (2 * positivePrice B i + 1)
+  before-low j i l r h = before-positive-price j i l r ∙ key-low (λ i. positivePrice B i) (λ i. purchase B i) j i h
 
-  pub before-high : (j i : ℕ) → j < B .n → i < B .n → i < j → before B j i ≡ ltb (2 * rate B j) (key B i)
-  before-high j i l r h = before-rate j i l r ∙ key-high (λ i. rate B i) (λ i. purchase B i) j i h
+  pub before-high : (j i : ℕ) → j < B .n → i < B .n → i < j → before B j i ≡ ltb (2 * positivePrice B j) (key B i)
+  before-high j i l r h = before-positive-price j i l r ∙ key-high (λ i. positivePrice B i) (λ i. purchase B i) j i h
 
   pub before-self : (i : ℕ) → i < B .n → before B i i ≡ false
   before-self i l = before-strict-total B ok .irreflexive i l
@@ -108,33 +108,33 @@ module _ (B : Book) (ok : Sound B) where
 
   -- ---- ranks
 
-  outside-is : (i S : ℕ) → sumTo (B .m) (λ p. on (not (member S p)) (ahead B i p)) ≡ ranks.outside (networkOf B) (greatest.ahead (before B) i) (member S)
-  unfolding ahead ranks.outside
+  outside-is : (i S : ℕ) → sumTo (B .m) (λ p. on (not (member S p)) (sizeBefore B i p)) ≡ ranks.outside (networkOf B) (greatest.ahead (before B) i) (member S)
+  unfolding sizeBefore ranks.outside
   outside-is i S =
       sum-ext (B .m) _ _ (λ p l. ap (on (not (member S p))) (sum-ext (B .n) _ _ (λ j r. on-on (before B j i) (eqb (poolIndex B j) p) (size B j))))
       ∙ by-pool (B .n) (B .m) (λ j. poolIndex B j) (λ j. on (before B j i) (size B j)) (ok .pool-index) (λ p. not (member S p))
       ∙ sum-ext (B .n) _ _ (λ j r. on-on (not (member S (poolIndex B j))) (before B j i) (size B j) ∙ sym (on-and (before B j i) (not (member S (poolIndex B j))) (size B j)))
 
-  own-is : (i S : ℕ) → i < B .n → sumTo (B .m) (λ p. on (not (member S p)) (weight B i p)) ≡ on (not (member S (poolIndex B i))) (size B i)
+  own-is : (i S : ℕ) → i < B .n → sumTo (B .m) (λ p. on (not (member S p)) (poolSize B i p)) ≡ on (not (member S (poolIndex B i))) (size B i)
   own-is i S l =
       sum-ext (B .m) _ _ (λ p r.
       on-on (not (member S p)) (eqb (poolIndex B i) p) (size B i) ∙ ap (λ (x : Bool). on x (on (not (member S p)) (size B i))) (eqb-symmetric (poolIndex B i) p))
       ∙ sum-one (B .m) (poolIndex B i) (λ p. on (not (member S p)) (size B i)) (ok .pool-index i l)
 
-  ahead-cost : (i S : ℕ) → cost B (ahead B i) S ≡ ranks.cost (networkOf B) (greatest.ahead (before B) i) (member S)
+  size-before-cost : (i S : ℕ) → cost B (sizeBefore B i) S ≡ ranks.cost (networkOf B) (greatest.ahead (before B) i) (member S)
   unfolding ranks.cost
-  ahead-cost i S = ap₂ (λ (u v : ℕ). u + v) (cut-is S) (outside-is i S)
+  size-before-cost i S = ap₂ (λ (u v : ℕ). u + v) (cut-is S) (outside-is i S)
 
-  reach-cost : (i S : ℕ) → i < B .n → cost B (reach B i) S ≡ ranks.cost (networkOf B) (greatest.ahead (before B) i adding i) (member S)
-  unfolding reach
-  reach-cost i S l =
+  size-with-cost : (i S : ℕ) → i < B .n → cost B (sizeWith B i) S ≡ ranks.cost (networkOf B) (greatest.ahead (before B) i adding i) (member S)
+  unfolding sizeWith
+  size-with-cost i S l =
       omega (
         arith,
-        sum-ext (B .m) (λ p. on (not (member S p)) (ahead B i p + weight B i p)) (λ p. on (not (member S p)) (ahead B i p) + on (not (member S p)) (weight B i p))
-            (λ p r. on-add (not (member S p)) (ahead B i p) (weight B i p)),
-        sum-add (B .m) (λ p. on (not (member S p)) (ahead B i p)) (λ p. on (not (member S p)) (weight B i p)),
+        sum-ext (B .m) (λ p. on (not (member S p)) (sizeBefore B i p + poolSize B i p)) (λ p. on (not (member S p)) (sizeBefore B i p) + on (not (member S p)) (poolSize B i p))
+            (λ p r. on-add (not (member S p)) (sizeBefore B i p) (poolSize B i p)),
+        sum-add (B .m) (λ p. on (not (member S p)) (sizeBefore B i p)) (λ p. on (not (member S p)) (poolSize B i p)),
         own-is i S l,
-        ahead-cost i S,
+        size-before-cost i S,
         cost-with (networkOf B) (greatest.ahead (before B) i) (member S) i l (before-self i l),
       )
 
@@ -153,15 +153,15 @@ module _ (B : Book) (ok : Sound B) where
       ∙ min-start greatestPositive (2 ^ B .m) (λ S. ranks.cost (networkOf B) A (member S)) (pow-pos (B .m)) (omega (arith, costs-small A (member 0)))
       ∙ sym (rank-masks (networkOf B) A)
 
-  ahead-rank : (i : ℕ) → rank B (ahead B i) ≡ ranks.rank (networkOf B) (greatest.ahead (before B) i)
-  ahead-rank i = rank-is (greatest.ahead (before B) i) (ahead B i) (λ S. ahead-cost i S)
+  rank-before : (i : ℕ) → rank B (sizeBefore B i) ≡ ranks.rank (networkOf B) (greatest.ahead (before B) i)
+  rank-before i = rank-is (greatest.ahead (before B) i) (sizeBefore B i) (λ S. size-before-cost i S)
 
-  reach-rank : (i : ℕ) → i < B .n → rank B (reach B i) ≡ ranks.rank (networkOf B) (greatest.ahead (before B) i adding i)
-  reach-rank i l = rank-is (greatest.ahead (before B) i adding i) (reach B i) (λ S. reach-cost i S l)
+  rank-with : (i : ℕ) → i < B .n → rank B (sizeWith B i) ≡ ranks.rank (networkOf B) (greatest.ahead (before B) i adding i)
+  rank-with i l = rank-is (greatest.ahead (before B) i adding i) (sizeWith B i) (λ S. size-with-cost i S l)
 
   used-is-cut : (i : ℕ) → i < B .n → usedAmount B i ≡ cutUsed B i
   unfolding usedAmount greatest.bestUsed
-  used-is-cut i l = ap₂ (λ (u v : ℕ). u - v) (reach-rank i l) (ahead-rank i)
+  used-is-cut i l = ap₂ (λ (u v : ℕ). u - v) (rank-with i l) (rank-before i)
 
   accepted-is-cut : (i : ℕ) → i < B .n → acceptedAmount B i ≡ cutClearing B .accepted i
   unfolding acceptedAmount turn
@@ -175,31 +175,32 @@ module _ (B : Book) (ok : Sound B) where
       sum-ext (B .m) _ _ (λ p l. ap (on (member S p)) (sum-ext (B .n) _ _ (λ i r. ap (on (eqb (poolIndex B i) p)) (used-is-cut i r))))
       ∙ by-pool (B .n) (B .m) (λ i. poolIndex B i) (cutUsed B) (ok .pool-index) (member S)
 
-  rest-is : (k : ℕ) → ((S : ℕ) → slackAfter B k S ≡ flows.slack (networkOf B) (cutUsed B) k (member S)) → restOf B (slackAfter B k) (k / B .m) (k % B .m) ≡ flows.rest (networkOf B) (cutUsed B) k
-  unfolding restOf flows.rest flows.restOf
+  rest-is : (k : ℕ) → ((S : ℕ) → slackAfter B k S ≡ slacks.slack (networkOf B) (cutUsed B) k (member S)) → restOf B (slackAfter B k) (k / B .m) (k % B .m) ≡ slacks.rest (networkOf B) (cutUsed B) k
+  unfolding restOf slacks.rest slacks.restOf
   rest-is k h = min-ext (capacity B (k / B .m) (k % B .m)) (2 ^ B .m) _ _ (λ S l. rw (h S) refl)
 
-  flow-is : (k : ℕ) → ((S : ℕ) → slackAfter B k S ≡ flows.slack (networkOf B) (cutUsed B) k (member S)) → lineFlow B k ≡ flows.lineFlow (networkOf B) (cutUsed B) k
-  unfolding flowOf flows.lineFlow
+  flow-is : (k : ℕ) → ((S : ℕ) → slackAfter B k S ≡ slacks.slack (networkOf B) (cutUsed B) k (member S)) → lineFlow B k ≡ slacks.lineFlow (networkOf B) (cutUsed B) k
+  unfolding flowOf slacks.lineFlow
   flow-is k h = ap (λ (v : ℕ). capacity B (k / B .m) (k % B .m) - v) (rest-is k h)
 
-  taken-is : (k S : ℕ) → ((S : ℕ) → slackAfter B k S ≡ flows.slack (networkOf B) (cutUsed B) k (member S))
+  taken-is : (k S : ℕ) → ((S : ℕ) → slackAfter B k S ≡ slacks.slack (networkOf B) (cutUsed B) k (member S))
       → takenOf B (slackAfter B k) (k / B .m) (k % B .m) S
-      ≡ cond (leaves S (k / B .m) (k % B .m)) (flows.rest (networkOf B) (cutUsed B) k) (on (leaves S (k % B .m) (k / B .m)) (flows.lineFlow (networkOf B) (cutUsed B) k))
+      ≡ cond (leaves S (k / B .m) (k % B .m)) (slacks.rest (networkOf B) (cutUsed B) k) (on (leaves S (k % B .m) (k / B .m)) (slacks.lineFlow (networkOf B) (cutUsed B) k))
   taken-is k S h = ap₂ (λ (r f : ℕ). cond (leaves S (k / B .m) (k % B .m)) r (on (leaves S (k % B .m) (k / B .m)) f)) (rest-is k h) (flow-is k h)
 
-  pub slack-is : (k S : ℕ) → slackAfter B k S ≡ flows.slack (networkOf B) (cutUsed B) k (member S)
-  unfolding slackAfter slack flows.slack flows.rest flows.lineFlow
+  pub slack-is : (k S : ℕ) → slackAfter B k S ≡ slacks.slack (networkOf B) (cutUsed B) k (member S)
+  unfolding slackAfter slack slacks.slack slacks.rest slacks.lineFlow
   slack-is zero S = ap₂ (λ (u v : ℕ). u - v) (cut-is S) (placement-is S)
   slack-is (suc k) S =
       ap₂ (λ (u v : ℕ). u - v) (slack-is k S) (taken-is k S (slack-is k))
-      ∙ taken-less (member S (k / B .m)) (member S (k % B .m)) (flows.slack (networkOf B) (cutUsed B) k (member S)) (flows.rest (networkOf B) (cutUsed B) k) (flows.lineFlow (networkOf B) (cutUsed B) k)
+      ∙ taken-less (member S (k / B .m)) (member S (k % B .m)) (slacks.slack (networkOf B) (cutUsed B) k (member S))
+      (slacks.rest (networkOf B) (cutUsed B) k) (slacks.lineFlow (networkOf B) (cutUsed B) k)
 
   -- ---- no difference is cut off at 0
 
-  pub used-and-rank : (i : ℕ) → i < B .n → usedAmount B i + rank B (ahead B i) ≡ rank B (reach B i)
+  pub used-and-rank : (i : ℕ) → i < B .n → usedAmount B i + rank B (sizeBefore B i) ≡ rank B (sizeWith B i)
   used-and-rank i l =
-      omega (arith, used-is-cut i l, reach-rank i l, ahead-rank i, greatest.gain (networkOf B) (network-sound B ok) (before B) (before-strict-total B ok) i)
+      omega (arith, used-is-cut i l, rank-with i l, rank-before i, greatest.gain (networkOf B) (network-sound B ok) (before B) (before-strict-total B ok) i)
 
   pub used-size : (i : ℕ) → i < B .n → usedAmount B i ≤ size B i
   used-size i l = omega (arith, used-is-cut i l, within-cuts B ok .sizes i l)
@@ -216,7 +217,7 @@ module _ (B : Book) (ok : Sound B) where
       omega (
         arith,
         taken-is k S (slack-is k),
-        taken-sum (member S (k / B .m)) (member S (k % B .m)) (flows.rest (networkOf B) (cutUsed B) k) (flows.lineFlow (networkOf B) (cutUsed B) k),
+        taken-sum (member S (k / B .m)) (member S (k % B .m)) (slacks.rest (networkOf B) (cutUsed B) k) (slacks.lineFlow (networkOf B) (cutUsed B) k),
         slack-is k S,
         slack-next (networkOf B) (cutUsed B) (within-cuts B ok) k l (member S),
       )
@@ -234,16 +235,16 @@ module _ (B : Book) (ok : Sound B) where
   unfolding demand
   demand-small p = sizes-small _ (λ i l. on-on-le (purchase B i) (eqb (poolIndex B i) p) (size B i))
 
-  pub ahead-small : (i p : ℕ) → ahead B i p ≤ sizeTotal
-  unfolding ahead
-  ahead-small i p = sizes-small _ (λ j l. on-on-le (before B j i) (eqb (poolIndex B j) p) (size B j))
+  pub size-before-small : (i p : ℕ) → sizeBefore B i p ≤ sizeTotal
+  unfolding sizeBefore
+  size-before-small i p = sizes-small _ (λ j l. on-on-le (before B j i) (eqb (poolIndex B j) p) (size B j))
 
   pub placement-small : (p : ℕ) → placement B p ≤ sizeTotal
   unfolding placement
   placement-small p = sizes-small _ (λ i l. omega (arith, on-le (eqb (poolIndex B i) p) (usedAmount B i), used-size i l))
 
   pub cut-small : (S : ℕ) → cut B S ≤ amountLimit
-  cut-small S = omega (arith, ahead-cost 0 S, costs-small (greatest.ahead (before B) 0) (member S))
+  cut-small S = omega (arith, size-before-cost 0 S, costs-small (greatest.ahead (before B) 0) (member S))
 
   pub slack-small : (k S : ℕ) → slackAfter B k S ≤ amountLimit
   unfolding slackAfter slack
@@ -252,13 +253,13 @@ module _ (B : Book) (ok : Sound B) where
 
   -- ---- pool prices
 
-  pub peak-is : (p : ℕ) → peak B p ≡ greatestSale B (λ i. acceptedAmount B i) p
-  unfolding peak offer greatestOf
-  peak-is p =
-      max-ext (B .n) _ _ (λ i l. sale-one (sale B i) (eqb (poolIndex B i) p) (ltb 0 (acceptedAmount B i)) (inPool B p i) (rate B i) (in-pool B ok p i l))
+  pub highest-offer-is : (p : ℕ) → highestOffer B p ≡ greatestSale B (λ i. acceptedAmount B i) p
+  unfolding highestOffer offer greatestOf
+  highest-offer-is p =
+      max-ext (B .n) _ _ (λ i l. sale-one (sale B i) (eqb (poolIndex B i) p) (ltb 0 (acceptedAmount B i)) (inPool B p i) (positivePrice B i) (in-pool B ok p i l))
 
-  pub peak-small : (p : ℕ) → peak B p ≤ 2 * priceLimit + 1
-  peak-small p = omega (arith, peak-is p, greatest-sale-small B ok (λ i. acceptedAmount B i) p)
+  pub highest-offer-small : (p : ℕ) → highestOffer B p ≤ 2 * priceLimit + 1
+  highest-offer-small p = omega (arith, highest-offer-is p, greatest-sale-small B ok (λ i. acceptedAmount B i) p)
 
 -- ---- the closed forms are a best clearing
 
@@ -294,5 +295,5 @@ pub closed-price : (B : Book) → AcceptedBook B → (c : Clearing) → Best B c
 closed-price B h c b p =
     let ok = accepted-sound B h in
     let same = pool-price-same B (c .accepted) (λ i. acceptedAmount B i) p (closed-accepted B h c b) in
-    rw (peak-is B ok p)
+    rw (highest-offer-is B ok p)
     (ap priceResidue same ∙ price-by-greatest B ok (λ i. acceptedAmount B i) p, ap presence same ∙ presence-by-greatest B ok (λ i. acceptedAmount B i) p)

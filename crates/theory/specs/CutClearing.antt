@@ -10,9 +10,10 @@ use Rattle.definitions.specs.Arithmetic.{on, sumTo, sumZ}
 use Rattle.definitions.specs.Book.{Book, price, purchase, sale, size, capacity}
 use Rattle.definitions.specs.Clearing.{Clearing, Feasible, before, used, welfare, value, Best, Permitted}
 use Rattle.laws.specs.AcceptedBook.{Sound, poolIndex, raisedPrice}
-use Rattle.theory.specs.Integers.{over, under, subtract-read, sum-read, le-read}
+use Rattle.theory.specs.Integers.{positivePart, negativePart, subtract-read, sum-read, le-read}
 use Rattle.theory.specs.Balance.{feasible-same}
-use Rattle.theory.specs.Flows.{WithinCuts, lineFlow, flow-first}
+use Rattle.theory.specs.Slacks.{lineFlow}
+use Rattle.theory.specs.Flows.{WithinCuts, flow-first}
 use Rattle.theory.specs.Greatest.{bestUsed, best-within-cuts, best-greatest}
 use Rattle.theory.specs.Welfare.{FeasibleAmounts, turn, turn-turn, turn-same, paid, taken, soldIn, boughtIn, sold-bought, clearing-feasible, best-clearing, best-welfare}
 use Rattle.theory.specs.Grid.{grid-one-way}
@@ -20,10 +21,11 @@ use Rattle.theory.specs.BookNetwork.{networkOf, byLines, byPools, used-i
 use Rattle.theory.specs.FlowOrder.{FirstFlows}
 use Rattle.theory.specs.Dictionary.{no-greater, no-greater-antisymmetric, no-later-flows}
 
--- used amounts as differences of ranks, flows line by line
+-- used amounts as differences of ranks
 abbrev pub cutUsed : Book → ℕ → ℕ
 cutUsed B = bestUsed (networkOf B) (before B)
 
+-- the clearing with these, and with flows found line by line
 abbrev pub cutClearing : Book → Clearing
 cutClearing B = record { accepted = turn (networkOf B) (cutUsed B); flow = byPools B (lineFlow (networkOf B) (cutUsed B)) }
 
@@ -75,7 +77,8 @@ module _ (B : Book) (ok : Sound B) where
 
   -- at raised prices, welfare is what the purchases pay less what the sales take
   welfare-read : (c : Clearing) → Feasible B c
-      → over (welfare B (c .accepted)) + taken (networkOf B) (λ i. raisedPrice B i) (c .accepted) ≡ paid (networkOf B) (λ i. raisedPrice B i) (c .accepted) + under (welfare B (c .accepted))
+      → positivePart (welfare B (c .accepted)) + taken (networkOf B) (λ i. raisedPrice B i) (c .accepted)
+      ≡ paid (networkOf B) (λ i. raisedPrice B i) (c .accepted) + negativePart (welfare B (c .accepted))
   unfolding welfare taken paid
   welfare-read c h =
       omega (

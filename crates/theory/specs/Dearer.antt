@@ -64,7 +64,7 @@ module _ (N : Network) (size pool : ℕ → ℕ) (purchase : ℕ → Bool)
 
 -- ---- of books
 
--- the same book with another bid table
+-- the book with another bid table
 abbrev pub rebid : Book → List ℤ → Book
 rebid B bids = book (B .n) (B .m) bids (B .capacities)
 

@@ -11,12 +11,13 @@ use Rattle.laws.specs.Sum.{sum-ext, sum-add, sum-zero, sum-one}
 use Rattle.laws.specs.Tests.{Eq?, same, diff, eq?, Lt?, less, more, lt?}
 use Rattle.theory.specs.Subsets.{member}
 use Rattle.theory.specs.Network.{Network, SoundNetwork, demand, cut, amountIn, _adding_}
-use Rattle.theory.specs.Rank.{total, rank, cost, outside, rank-le, rank-monotone, rank-ext, rank-one-more, rank-none, rank-all, rank-bound, gains-diminish}
+use Rattle.theory.specs.Rank.{bidSum, rank, cost, outside, rank-le, rank-monotone, rank-ext, rank-one-more, rank-none, rank-all, rank-bound, gains-diminish}
 use Rattle.theory.specs.Balance.{all, FeasibleUse, cut-bound}
 use Rattle.theory.specs.Flows.{WithinCuts}
 use Rattle.theory.specs.Choices.{iff, and-made}
 use Rattle.theory.specs.StrictOrder.{StrictTotal, place, place-le, place-lt, place-before, place-inj, find}
 
+-- the bids before bid i
 abbrev pub ahead : (ℕ → ℕ → Bool) → ℕ → ℕ → Bool
 ahead before i = λ j. before j i
 
@@ -25,9 +26,9 @@ unfoldable pub bestUsed : Network → (ℕ → ℕ → Bool) → ℕ → ℕ
 bestUsed N before i = rank N (ahead before i adding i) - rank N (ahead before i)
 
 -- totals
-total-ext : (N : Network) (v : ℕ → ℕ) (A B : ℕ → Bool) → ((i : ℕ) → i < N .bids → A i ≡ B i) → total N v A ≡ total N v B
-unfolding total
-total-ext N v A B h = sum-ext _ _ _ (λ i l. ap (λ (z : Bool). on z (v i)) (h i l))
+bid-sum-ext : (N : Network) (v : ℕ → ℕ) (A B : ℕ → Bool) → ((i : ℕ) → i < N .bids → A i ≡ B i) → bidSum N v A ≡ bidSum N v B
+unfolding bidSum
+bid-sum-ext N v A B h = sum-ext _ _ _ (λ i l. ap (λ (z : Bool). on z (v i)) (h i l))
 
 adding-one : (x : Bool) (j i v : ℕ) {t : Bool} → Eq? j i t → (j ≡ i → x ≡ false) → on (x || t) v ≡ on x v + on t v
 adding-one true j i v (same p) h = absurd (true≢false (h p))
@@ -35,9 +36,9 @@ adding-one false j i v (same p) h = omega arith
 adding-one true j i v (diff p) h = omega arith
 adding-one false j i v (diff p) h = omega arith
 
-total-with : (N : Network) (v : ℕ → ℕ) (B : ℕ → Bool) (i : ℕ) → i < N .bids → B i ≡ false → total N v (B adding i) ≡ total N v B + v i
-unfolding total
-total-with N v B i l h =
+bid-sum-with : (N : Network) (v : ℕ → ℕ) (B : ℕ → Bool) (i : ℕ) → i < N .bids → B i ≡ false → bidSum N v (B adding i) ≡ bidSum N v B + v i
+unfolding bidSum
+bid-sum-with N v B i l h =
     omega (
       arith,
       sum-ext (N .bids) (λ j. on (B j || eqb j i) (v j)) (λ j. on (B j) (v j) + on (eqb j i) (v j)) (λ j r. adding-one (B j) j i (v j) (eq? j i) (λ e. ap B e ∙ h)),
@@ -130,9 +131,9 @@ module _ (N : Network) (ok : SoundNetwork N) (before : ℕ → ℕ → Bool) (o 
   all-at : (B : ℕ → Bool) (i : ℕ) → firstPlaces B (suc (N .bids)) i ≡ B i
   all-at B i = places-end (B i) (placeOf i) (suc (N .bids)) (lt? (placeOf i) (suc (N .bids))) (omega (arith, place-le (N .bids) before o i))
 
-  total-none : (v : ℕ → ℕ) → total N v (λ i. false) ≡ 0
-  unfolding total
-  total-none v = sum-zero (N .bids)
+  bid-sum-none : (v : ℕ → ℕ) → bidSum N v (λ i. false) ≡ 0
+  unfolding bidSum
+  bid-sum-none v = sum-zero (N .bids)
 
   places-ahead : (B : ℕ → Bool) (k i : ℕ) → i < N .bids → placeOf i ≡ k → (j : ℕ) → j < N .bids → firstPlaces B k j ≡ true → before j i ≡ true
   places-ahead B k i l e j r h =
@@ -142,32 +143,32 @@ module _ (N : Network) (ok : SoundNetwork N) (before : ℕ → ℕ → Bool) (o 
   places-not B k i e = places-here (B i) (placeOf i) k (lt? (placeOf i) k) e
 
   -- no set of bids gets more than its rank
-  upto-le : (B : ℕ → Bool) (k : ℕ) → total N (bestUsed N before) (firstPlaces B k) ≤ rank N (firstPlaces B k)
+  upto-le : (B : ℕ → Bool) (k : ℕ) → bidSum N (bestUsed N before) (firstPlaces B k) ≤ rank N (firstPlaces B k)
   upto-le B zero =
-      omega (arith, total-ext N (bestUsed N before) (firstPlaces B 0) (λ i. false) (λ i l. none-at B i), total-none (bestUsed N before))
+      omega (arith, bid-sum-ext N (bestUsed N before) (firstPlaces B 0) (λ i. false) (λ i l. none-at B i), bid-sum-none (bestUsed N before))
   upto-le B (suc k) = go (next-place B k) (upto-le B k)
     where
       F : ℕ → ℕ → Bool
       F = firstPlaces B
 
-      go : NextPlace B k → total N (bestUsed N before) (F k) ≤ rank N (F k) → total N (bestUsed N before) (F (suc k)) ≤ rank N (F (suc k))
-      go (inl h) ih = omega (arith, ih, total-ext N (bestUsed N before) (F (suc k)) (F k) h, rank-ext N ok (F (suc k)) (F k) h)
+      go : NextPlace B k → bidSum N (bestUsed N before) (F k) ≤ rank N (F k) → bidSum N (bestUsed N before) (F (suc k)) ≤ rank N (F (suc k))
+      go (inl h) ih = omega (arith, ih, bid-sum-ext N (bestUsed N before) (F (suc k)) (F k) h, rank-ext N ok (F (suc k)) (F k) h)
       go (inr h) ih =
           let i = h .0 in
           omega (
             arith,
             ih,
-            total-ext N (bestUsed N before) (F (suc k)) (F k adding i) (h .4),
+            bid-sum-ext N (bestUsed N before) (F (suc k)) (F k adding i) (h .4),
             rank-ext N ok (F (suc k)) (F k adding i) (h .4),
-            total-with N (bestUsed N before) (F k) i (h .1) (places-not B k i (h .3)),
+            bid-sum-with N (bestUsed N before) (F k) i (h .1) (places-not B k i (h .3)),
             gain i,
             gains-diminish N ok (F k) (ahead before i) i (places-ahead B k i (h .1) (h .3)) (o .irreflexive i (h .1)),
           )
 
-  best-le-rank : (B : ℕ → Bool) → total N (bestUsed N before) B ≤ rank N B
+  best-le-rank : (B : ℕ → Bool) → bidSum N (bestUsed N before) B ≤ rank N B
   best-le-rank B =
       let F = firstPlaces B (suc (N .bids)) in
-      omega (arith, upto-le B (suc (N .bids)), total-ext N (bestUsed N before) F B (λ i l. all-at B i), rank-ext N ok F B (λ i l. all-at B i))
+      omega (arith, upto-le B (suc (N .bids)), bid-sum-ext N (bestUsed N before) F B (λ i l. all-at B i), rank-ext N ok F B (λ i l. all-at B i))
 
   -- an initial part of the merit order gets its rank
   abbrev pub Initial : (ℕ → Bool) → Type 0
@@ -177,12 +178,12 @@ module _ (N : Network) (ok : SoundNetwork N) (before : ℕ → ℕ → Bool) (o 
   ahead-places B d k i l h e j r q =
       and-made (B j) (ltb (placeOf j) k) (d i j l r h q) (lt-ltb (placeOf j) k (omega (arith, e, place-lt (N .bids) before o j i r l q)))
 
-  upto-eq : (B : ℕ → Bool) → Initial B → (k : ℕ) → total N (bestUsed N before) (firstPlaces B k) ≡ rank N (firstPlaces B k)
+  upto-eq : (B : ℕ → Bool) → Initial B → (k : ℕ) → bidSum N (bestUsed N before) (firstPlaces B k) ≡ rank N (firstPlaces B k)
   upto-eq B d zero =
       omega (
         arith,
-        total-ext N (bestUsed N before) (firstPlaces B 0) (λ i. false) (λ i l. none-at B i),
-        total-none (bestUsed N before),
+        bid-sum-ext N (bestUsed N before) (firstPlaces B 0) (λ i. false) (λ i l. none-at B i),
+        bid-sum-none (bestUsed N before),
         rank-ext N ok (firstPlaces B 0) (λ i. false) (λ i l. none-at B i),
         rank-none N ok,
       )
@@ -191,8 +192,8 @@ module _ (N : Network) (ok : SoundNetwork N) (before : ℕ → ℕ → Bool) (o 
       F : ℕ → ℕ → Bool
       F = firstPlaces B
 
-      go : NextPlace B k → total N (bestUsed N before) (F k) ≡ rank N (F k) → total N (bestUsed N before) (F (suc k)) ≡ rank N (F (suc k))
-      go (inl h) ih = omega (arith, ih, total-ext N (bestUsed N before) (F (suc k)) (F k) h, rank-ext N ok (F (suc k)) (F k) h)
+      go : NextPlace B k → bidSum N (bestUsed N before) (F k) ≡ rank N (F k) → bidSum N (bestUsed N before) (F (suc k)) ≡ rank N (F (suc k))
+      go (inl h) ih = omega (arith, ih, bid-sum-ext N (bestUsed N before) (F (suc k)) (F k) h, rank-ext N ok (F (suc k)) (F k) h)
       go (inr h) ih =
           let i = h .0 in
           let up = places-ahead B k i (h .1) (h .3) in
@@ -200,22 +201,22 @@ module _ (N : Network) (ok : SoundNetwork N) (before : ℕ → ℕ → Bool) (o 
           omega (
             arith,
             ih,
-            total-ext N (bestUsed N before) (F (suc k)) (F k adding i) (h .4),
+            bid-sum-ext N (bestUsed N before) (F (suc k)) (F k adding i) (h .4),
             rank-ext N ok (F (suc k)) (F k adding i) (h .4),
-            total-with N (bestUsed N before) (F k) i (h .1) (places-not B k i (h .3)),
+            bid-sum-with N (bestUsed N before) (F k) i (h .1) (places-not B k i (h .3)),
             gain i,
             rank-ext N ok (F k) (ahead before i) (λ j r. iff (F k j) (before j i) (up j r) (down j r)),
             rank-ext N ok (F k adding i) (ahead before i adding i) (λ j r. ap (λ (z : Bool). z || eqb j i) (iff (F k j) (before j i) (up j r) (down j r))),
           )
 
-  pub best-initial : (B : ℕ → Bool) → Initial B → total N (bestUsed N before) B ≡ rank N B
+  pub best-initial : (B : ℕ → Bool) → Initial B → bidSum N (bestUsed N before) B ≡ rank N B
   best-initial B d =
       let F = firstPlaces B (suc (N .bids)) in
-      omega (arith, upto-eq B d (suc (N .bids)), total-ext N (bestUsed N before) F B (λ i l. all-at B i), rank-ext N ok F B (λ i l. all-at B i))
+      omega (arith, upto-eq B d (suc (N .bids)), bid-sum-ext N (bestUsed N before) F B (λ i l. all-at B i), rank-ext N ok F B (λ i l. all-at B i))
 
   -- the best clearing meets the cuts
   best-cuts : (S : ℕ → Bool) → amountIn N (bestUsed N before) S ≤ cut N S
-  unfolding amountIn total cost outside
+  unfolding amountIn bidSum cost outside
   best-cuts S =
       omega (arith, best-le-rank (λ i. S (N .pool i)), rank-le N ok (λ i. S (N .pool i)) S, outside-own S)
     where
@@ -227,7 +228,7 @@ module _ (N : Network) (ok : SoundNetwork N) (before : ℕ → ℕ → Bool) (o 
       outside-own S = sum-ext (N .bids) _ (λ i. 0) (λ i l. own (S (N .pool i)) (N .size i)) ∙ sum-zero (N .bids)
 
   best-whole : amountIn N (bestUsed N before) all ≡ demand N all
-  unfolding amountIn total
+  unfolding amountIn bidSum
   best-whole = best-initial (λ i. true) (λ i j l r p q. refl) ∙ rank-all N ok
 
   pub best-within-cuts : WithinCuts N (bestUsed N before)
@@ -239,9 +240,9 @@ module _ (N : Network) (ok : SoundNetwork N) (before : ℕ → ℕ → Bool) (o 
       omega (
         arith,
         rank-bound N y (c .sizes) (λ s. cut-bound N ok y f c (member s)) (ahead before i adding i),
-        total-with N y (ahead before i) i l (o .irreflexive i l),
+        bid-sum-with N y (ahead before i) i l (o .irreflexive i l),
         gain i,
-        same-total,
+        same-bid-sum,
         best-initial (ahead before i) (λ j k p q e e'. o .transitive k j i q p l e' e),
       )
     where
@@ -249,5 +250,5 @@ module _ (N : Network) (ok : SoundNetwork N) (before : ℕ → ℕ → Bool) (o 
       on-same true v w e = e refl
       on-same false v w e = refl
 
-      same-total : total N y (ahead before i) ≡ total N (bestUsed N before) (ahead before i)
-      same-total = unfold total in sum-ext _ _ _ (λ j r. on-same (before j i) (y j) (bestUsed N before j) (h j r))
+      same-bid-sum : bidSum N y (ahead before i) ≡ bidSum N (bestUsed N before) (ahead before i)
+      same-bid-sum = unfold bidSum in sum-ext _ _ _ (λ j r. on-same (before j i) (y j) (bestUsed N before j) (h j r))

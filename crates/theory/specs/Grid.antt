@@ -10,9 +10,11 @@ use Rattle.definitions.specs.Arithmetic.{on, sumTo}
 use Rattle.laws.specs.Sum.{sum-ext, sum-one}
 use Rattle.theory.specs.Network.{Network, SoundNetwork}
 use Rattle.theory.specs.Balance.{only, arriving, departing}
-use Rattle.theory.specs.Flows.{WithinCuts, lineFlow, never-both}
+use Rattle.theory.specs.Slacks.{lineFlow}
+use Rattle.theory.specs.Flows.{WithinCuts, never-both}
 use Rattle.theory.specs.Choices.{on-sum}
 
+-- n bids, and a line from each of m pools to each, by rows
 abbrev pub grid : (n m : ℕ) (size pool : ℕ → ℕ) (purchase : ℕ → Bool) (capacity : ℕ → ℕ) → Network
 grid n m size pool purchase capacity = record { bids = n; pools = m; lines = m * m; size = size; pool = pool; purchase = purchase; source = λ k. k / m; target = λ k. k % m; capacity = capacity }
 

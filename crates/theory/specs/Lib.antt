@@ -1,4 +1,6 @@
 -- The best clearing exists, is unique, has the greatest welfare (BestClearing), and is given by cuts (ClosedBest).
+-- A law is named after what it is about; its ending says what is said: -is (it equals another form), -same (equal numbers give
+-- an equal result), -ext (only what is below a count matters), -one (one term of a sum), -small or -le (a bound).
 -- Numbers, tests and orders.
 pub mod Choices
 pub mod Integers
@@ -8,6 +10,7 @@ pub mod Subsets
 pub mod Network
 pub mod Rank
 pub mod Balance
+pub mod Slacks
 pub mod Flows
 pub mod Greatest
 pub mod Welfare

@@ -20,6 +20,7 @@ tie false true j i = true
 tie true false j i = false
 tie true true j i = ltb i j
 
+-- is bid j before bid i? By price, then by the rule for equal prices
 unfoldable pub merit : (ℕ → ℕ) → (ℕ → Bool) → ℕ → ℕ → Bool
 merit price purchase j i = ltb (price j) (price i) || (eqb (price j) (price i) && tie (purchase j) (purchase i) j i)
 
@@ -161,7 +162,7 @@ module _ (price : ℕ → ℕ) (purchase : ℕ → Bool) where
       go (inl h) = omega arith
       go (inr h) = omega arith
 
-  -- the keys: 2 × price + side
+  -- two keys compare merit; ClosedForms has the key of a book's bid
   abbrev pub key : ℕ → ℕ
   key i = 2 * price i + on (purchase i) 1
 

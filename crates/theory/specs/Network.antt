@@ -9,6 +9,7 @@ use Rattle.laws.specs.Sum.{sum-ext, sum-le, sum-add, sum-add4, sum-zero, sum-le
 use Rattle.theory.specs.Subsets.{LooksBelow}
 use Rattle.theory.specs.Choices.{on-zero}
 
+-- bids with their sizes, pools and sides, and lines between pools with their capacities
 pub record Network : Type 0 where
   pub bids : ℕ
   pub pools : ℕ
@@ -20,6 +21,7 @@ pub record Network : Type 0 where
   pub target : ℕ → ℕ
   pub capacity : ℕ → ℕ
 
+-- each bid and each end of a line is in one of the pools
 pub record SoundNetwork (N : Network) : Type 0 where
   pub pool-below : (i : ℕ) → i < N .bids → N .pool i < N .pools
   pub source-below : (j : ℕ) → j < N .lines → N .source j < N .pools
@@ -33,17 +35,19 @@ amountIn N v S = sumTo (N .bids) (λ i. on (S (N .pool i)) (v i))
 unfoldable pub demand : Network → (ℕ → Bool) → ℕ
 demand N S = sumTo (N .bids) (λ i. on (S (N .pool i) && N .purchase i) (N .size i))
 
--- line j leaves S, enters S
+-- line j leaves S
 abbrev pub goesOut : Network → (ℕ → Bool) → ℕ → Bool
 goesOut N S j = S (N .source j) && not (S (N .target j))
 
+-- line j enters S
 abbrev pub comesIn : Network → (ℕ → Bool) → ℕ → Bool
 comesIn N S j = not (S (N .source j)) && S (N .target j)
 
--- the sum of c over the lines that leave S, that enter S
+-- the sum of c over the lines that leave S
 unfoldable pub leaving : Network → (ℕ → ℕ) → (ℕ → Bool) → ℕ
 leaving N c S = sumTo (N .lines) (λ j. on (goesOut N S j) (c j))
 
+-- the sum of c over the lines that enter S
 unfoldable pub entering : Network → (ℕ → ℕ) → (ℕ → Bool) → ℕ
 entering N c S = sumTo (N .lines) (λ j. on (comesIn N S j) (c j))
 
@@ -51,7 +55,7 @@ entering N c S = sumTo (N .lines) (λ j. on (comesIn N S j) (c j))
 unfoldable pub cut : Network → (ℕ → Bool) → ℕ
 cut N S = demand N S + leaving N (N .capacity) S
 
--- sets
+-- the pools in one of two sets, and in both
 infixl 40 _∪_
 infixl 45 _∩_
 abbrev pub _∪_ : (ℕ → Bool) → (ℕ → Bool) → ℕ → Bool

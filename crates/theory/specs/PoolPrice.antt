@@ -89,10 +89,11 @@ higher-next z y h r q e s =
     go (less l) = (omega (arith, q .0), omega arith, omega arith)
     go (more l) = (omega (arith, q .0), omega arith, omega (arith, q .2))
 
--- among the first k bids, and among all
+-- the greatest raised price and 1 of the sales accepted in pool p, among the first k bids
 unfoldable pub greatestOf : Book → (ℕ → ℕ) → (p k : ℕ) → ℕ
 greatestOf B accepted p k = maxTo k (λ i. on (sells B accepted p i) (suc (raisedPrice B i)))
 
+-- among all bids
 abbrev pub greatestSale : Book → (ℕ → ℕ) → ℕ → ℕ
 greatestSale B accepted p = greatestOf B accepted p (B .n)
 

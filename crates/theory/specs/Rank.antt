@@ -13,16 +13,18 @@ use Rattle.theory.specs.Network.{Network, SoundNetwork, demand, leaving,
 use Rattle.theory.specs.Choices.{on-le}
 
 -- the sum of v over the bids in B
-unfoldable pub total : Network → (ℕ → ℕ) → (ℕ → Bool) → ℕ
-total N v B = sumTo (N .bids) (λ i. on (B i) (v i))
+unfoldable pub bidSum : Network → (ℕ → ℕ) → (ℕ → Bool) → ℕ
+bidSum N v B = sumTo (N .bids) (λ i. on (B i) (v i))
 
 -- the sizes of the bids in B whose pool is not in S
 unfoldable pub outside : Network → (ℕ → Bool) → (ℕ → Bool) → ℕ
 outside N B S = sumTo (N .bids) (λ i. on (B i && not (S (N .pool i))) (N .size i))
 
+-- what a set S of pools allows the bids in B to use: its cut, and their sizes outside S
 unfoldable pub cost : Network → (ℕ → Bool) → (ℕ → Bool) → ℕ
 cost N B S = cut N S + outside N B S
 
+-- the most that the bids in B can use: the least that a set allows
 unfoldable pub rank : Network → (ℕ → Bool) → ℕ
 rank N B = least (N .pools) (cost N B)
 
@@ -103,8 +105,8 @@ bound-one true false v u h = omega arith
 bound-one false s v u h = omega arith
 
 pub rank-bound : (N : Network) (y : ℕ → ℕ) → ((i : ℕ) → i < N .bids → y i ≤ N .size i) → ((s : ℕ) → amountIn N y (member s) ≤ cut N (member s))
-    → (B : ℕ → Bool) → total N y B ≤ rank N B
-unfolding cost outside amountIn total
+    → (B : ℕ → Bool) → bidSum N y B ≤ rank N B
+unfolding cost outside amountIn bidSum
 rank-bound N y h c B =
     let a = rank-at N B in
     let S = member (a .0) in

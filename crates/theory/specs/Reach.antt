@@ -14,6 +14,7 @@ use Rattle.theory.specs.Network.{goesOut, comesIn, Network, SoundNetwork
 use Rattle.theory.specs.Balance.{only, FeasibleUse, cut-balance}
 use Rattle.theory.specs.Choices.{search, on-monotone, is-true, or-cases, or-left, and-both}
 
+-- pool q reaches another: itself, along a line that is not full, back along one that carries something
 pub data Reach (N : Network) (f : ℕ → ℕ) (q : ℕ) : ℕ → Type 0 where
   here : Reach N f q q
   along : (j : ℕ) → j < N .lines → f j < N .capacity j → Reach N f q (N .source j) → Reach N f q (N .target j)

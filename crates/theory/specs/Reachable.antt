@@ -13,8 +13,8 @@ use Rattle.theory.specs.Subsets.{member, mask, mask-lt, mask-member}
 use Rattle.theory.specs.Network as network
 use Rattle.theory.specs.Network.{amountIn, cut-ext}
 use Rattle.theory.specs.Balance.{FeasibleUse, feasible-same}
-use Rattle.theory.specs.Flows as flows
-use Rattle.theory.specs.Flows.{amountIn-ext}
+use Rattle.theory.specs.Slacks as slacks
+use Rattle.theory.specs.Slacks.{amountIn-ext}
 use Rattle.theory.specs.Welfare.{turn, clearing-feasible}
 use Rattle.theory.specs.Reach.{Reach, here, along, back, reach-slack, slack-reach, reach-same}
 use Rattle.theory.specs.BookNetwork.{networkOf, byLines, used-is, network-sound, feasible-network}
@@ -28,7 +28,7 @@ pub data Reaches (B : Book) (flow : ℕ → ℕ → ℕ) (q : ℕ) : ℕ → Typ
   step : (a b : ℕ) → a < B .m → b < B .m → Reaches B flow q a → (flow a b < capacity B a b) ⊎ (0 < flow b a) → Reaches B flow q b
 
 module _ (B : Book) (ok : Sound B) (f : ℕ → ℕ → ℕ) (q : ℕ) where
-  -- the same by lines
+  -- a way by pools is a way by lines
   to-lines : {p : ℕ} → Reaches B f q p → Reach (networkOf B) (byLines B f) q p
   to-lines itself = here
   to-lines (step a b l r w (inl h)) =
@@ -51,7 +51,7 @@ module _ (B : Book) (h : AcceptedBook B) (c : Clearing) (b : Best B c) where
       (clearing-feasible (networkOf B) (c .accepted) (byLines B (c .flow)) (feasible-network B (accepted-sound B h) c (b .feasible)))
 
   slack-of : (S : ℕ) → slack B S ≡ network.cut (networkOf B) (member S) - amountIn (networkOf B) (cutUsed B) (member S)
-  unfolding slackAfter flows.slack
+  unfolding slackAfter slacks.slack
   slack-of S = slack-is B (accepted-sound B h) 0 S
 
   -- pool q reaches pool p exactly if every set that holds q and not p has slack

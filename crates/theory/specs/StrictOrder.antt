@@ -12,6 +12,7 @@ use Rattle.definitions.specs.Arithmetic.{on, sumTo}
 use Rattle.laws.specs.Sum.{sum-le, sum-le-at}
 use Rattle.theory.specs.Choices.{on-le, search}
 
+-- a strict total order of the numbers below n
 pub record StrictTotal (n : ℕ) (before : ℕ → ℕ → Bool) : Type 0 where
   pub irreflexive : (i : ℕ) → i < n → before i i ≡ false
   pub transitive : (i j k : ℕ) → i < n → j < n → k < n → before i j ≡ true → before j k ≡ true → before i k ≡ true
@@ -79,6 +80,7 @@ module _ (n : ℕ) (before : ℕ → ℕ → Bool) (o : StrictTotal n before) wh
   abbrev pub EqualBefore : (y x : ℕ → ℕ) → ℕ → Type 0
   EqualBefore y x i = (j : ℕ) → j < n → before j i ≡ true → y j ≡ x j
 
+  -- i is the first at which y and x differ
   abbrev pub FirstDifference : (y x : ℕ → ℕ) → Type 0
   FirstDifference y x = (i : ℕ) × (i < n) × (y i ≢ x i) × EqualBefore y x i
 

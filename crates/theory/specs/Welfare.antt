@@ -11,9 +11,10 @@ use Rattle.laws.specs.Sum.{sum-ext, sum-le, sum-add, sum-swap}
 use Rattle.laws.specs.Tests.{Lt?, less, more, lt?}
 use Rattle.theory.specs.Subsets.{member}
 use Rattle.theory.specs.Network.{Network, SoundNetwork, demand, amountIn}
-use Rattle.theory.specs.Rank.{total, rank-bound}
+use Rattle.theory.specs.Rank.{bidSum, rank-bound}
 use Rattle.theory.specs.Balance.{amountIn-same, only, all, arriving, departing, FeasibleUse, cut-bound, cut-total}
-use Rattle.theory.specs.Flows.{lineFlow, flow-feasible}
+use Rattle.theory.specs.Slacks.{lineFlow}
+use Rattle.theory.specs.Flows.{flow-feasible}
 use Rattle.theory.specs.Greatest.{bestUsed, best-initial, best-within-cuts, Initial}
 use Rattle.theory.specs.StrictOrder.{StrictTotal}
 use Rattle.theory.specs.Choices.{on-not}
@@ -38,16 +39,16 @@ unfoldable valueOf : Network → (ℕ → ℕ) → (ℕ → ℕ) → ℕ
 valueOf N price v = sumTo (N .bids) (λ i. price i * v i)
 
 valueOf-levels : (N : Network) (price v : ℕ → ℕ) (d : ℕ) → ((i : ℕ) → i < N .bids → price i ≤ d)
-    → valueOf N price v ≡ sumTo d (λ t. total N v (λ i. ltb t (price i)))
-unfolding valueOf total
+    → valueOf N price v ≡ sumTo d (λ t. bidSum N v (λ i. ltb t (price i)))
+unfolding valueOf bidSum
 valueOf-levels N price v d h =
     sum-ext _ _ (λ i. sumTo d (λ t. on (ltb t (price i)) (v i)))
     (λ i l. let e : min d (price i) ≡ price i = omega (arith, h i l) in sym (levels d (price i) (v i) ∙ ap (λ (z : ℕ). z * v i) e))
     ∙ sum-swap (N .bids) d (λ i t. on (ltb t (price i)) (v i))
 
-total-split : (N : Network) (v : ℕ → ℕ) (B : ℕ → Bool) → total N v B + total N v (λ i. not (B i)) ≡ total N v (λ i. true)
-unfolding total
-total-split N v B = sym (sum-add (N .bids) _ _) ∙ sum-ext _ _ _ (λ i l. on-not (B i) (v i))
+bid-sum-split : (N : Network) (v : ℕ → ℕ) (B : ℕ → Bool) → bidSum N v B + bidSum N v (λ i. not (B i)) ≡ bidSum N v (λ i. true)
+unfolding bidSum
+bid-sum-split N v B = sym (sum-add (N .bids) _ _) ∙ sum-ext _ _ _ (λ i l. on-not (B i) (v i))
 
 not-lt : (t q : ℕ) {s : Bool} → Lt? t q s → not s ≡ true → q ≤ t
 not-lt t q (less l) e = absurd (true≢false (sym e))
@@ -59,19 +60,19 @@ module _ (N : Network) (ok : SoundNetwork N) (before : ℕ → ℕ → Bool) (o 
   level-initial t i j l r h q =
       ap not (le-ltb t (price j) (omega (arith, not-lt t (price i) (lt? t (price i)) h, rises i j l r q)))
 
-  level-le : (y f : ℕ → ℕ) → FeasibleUse N y f → (t : ℕ) → total N (bestUsed N before) (λ i. ltb t (price i)) ≤ total N y (λ i. ltb t (price i))
+  level-le : (y f : ℕ → ℕ) → FeasibleUse N y f → (t : ℕ) → bidSum N (bestUsed N before) (λ i. ltb t (price i)) ≤ bidSum N y (λ i. ltb t (price i))
   level-le y f c t =
       omega (
         arith,
         best-initial N ok before o (λ i. not (ltb t (price i))) (level-initial t),
         rank-bound N y (c .sizes) (λ s. cut-bound N ok y f c (member s)) (λ i. not (ltb t (price i))),
-        total-split N y (λ i. ltb t (price i)),
-        total-split N (bestUsed N before) (λ i. ltb t (price i)),
+        bid-sum-split N y (λ i. ltb t (price i)),
+        bid-sum-split N (bestUsed N before) (λ i. ltb t (price i)),
         wholes,
       )
     where
-      wholes : total N (bestUsed N before) (λ i. true) ≡ total N y (λ i. true)
-      wholes = unfold total amountIn in best-within-cuts N ok before o .whole ∙ sym (cut-total N ok y f c)
+      wholes : bidSum N (bestUsed N before) (λ i. true) ≡ bidSum N y (λ i. true)
+      wholes = unfold bidSum amountIn in best-within-cuts N ok before o .whole ∙ sym (cut-total N ok y f c)
 
   -- no feasible clearing has less of price × used
   best-cheapest : (d : ℕ) → ((i : ℕ) → i < N .bids → price i ≤ d) → (y f : ℕ → ℕ) → FeasibleUse N y f → valueOf N price (bestUsed N before) ≤ valueOf N price y
@@ -102,10 +103,11 @@ turn-size N a i h = go (N .purchase i)
     go true = omega arith
     go false = omega arith
 
--- the sum of a over the sales in S, over the purchases in S
+-- the sum of a over the sales in S
 unfoldable pub soldIn : Network → (ℕ → ℕ) → (ℕ → Bool) → ℕ
 soldIn N a S = sumTo (N .bids) (λ i. on (S (N .pool i) && not (N .purchase i)) (a i))
 
+-- the sum of a over the purchases in S
 unfoldable pub boughtIn : Network → (ℕ → ℕ) → (ℕ → Bool) → ℕ
 boughtIn N a S = sumTo (N .bids) (λ i. on (S (N .pool i) && N .purchase i) (a i))
 
@@ -146,10 +148,11 @@ feasible-clearing N x f c = record {
   );
 }
 
--- What the purchases pay and the sales take, at these prices. Welfare is the first less the second.
+-- what the purchases pay at these prices; welfare is this less what the sales take
 unfoldable pub paid : Network → (ℕ → ℕ) → (ℕ → ℕ) → ℕ
 paid N price a = sumTo (N .bids) (λ i. on (N .purchase i) (price i * a i))
 
+-- what the sales take
 unfoldable pub taken : Network → (ℕ → ℕ) → (ℕ → ℕ) → ℕ
 taken N price a = sumTo (N .bids) (λ i. on (not (N .purchase i)) (price i * a i))
 

@@ -18,13 +18,13 @@ use Rattle.definitions.specs.Bytes.{ordersBytes}
 use Rattle.definitions.specs.Calls.{countsRefusal, runRefusal, runSheet, runCount}
 use Rattle.definitions.specs.Machine.{IsSheet, runOf, WellFormed, AllWellFormed}
 use Rattle.definitions.specs.Plan as plans
-use Rattle.definitions.specs.Plan.{fitting, roomRefusal, writeRefusal, over, ordersWritten, bytesWritten, writtenCounts, writeCounts, writeSlice}
+use Rattle.definitions.specs.Plan.{fitting, roomRefusal, writeRefusal, over, ordersWritten, bytesWritten, writtenCounts, writeCounts, writeSlice, longestOrder}
 use Rattle.laws.specs.Tests.{Lt?, less, more, lt?}
 use Rattle.laws.specs.Sizes.{counted}
 use Rattle.codec.specs.OrderBytes.{at-most-eight}
 use Rattle.runner.specs.Runs.{orders-bytes-run, run-leaves-sheet}
 use Rattle.plan.specs.Plan.{plan}
-use Rattle.plan.specs.List.{plan-well-formed, plan-orders}
+use Rattle.plan.specs.PlanOrders.{plan-well-formed, plan-orders}
 use Rattle.plan.specs.Asking.{within-total}
 use Rattle.codec.specs.Fitting.{bytes-of-both, bytes-of-none, bytes-in-parts, bytes-at-most, fits-none, fits-at-most, some-fits}
 use Rattle.orders.specs.Calls.{counts-accepted, slice-accepted}
@@ -52,7 +52,7 @@ module _ (n m : ℕ) (counts : countsRefusal n m ≡ none) where
   orders-within at room within = omega (arith, fits-at-most (drop at (plan n m)) room, length-drop at (plan n m))
 
   -- no more bytes than 8 for each order of the plan
-  pub bytes-within : (at room : ℕ) → length (bytesWritten plan n m at room) ≤ 8 * length (plan n m)
+  pub bytes-within : (at room : ℕ) → length (bytesWritten plan n m at room) ≤ longestOrder * length (plan n m)
   unfolding bytesWritten
   bytes-within at room =
       let k : ℕ = ordersWritten plan n m at room in
@@ -64,7 +64,7 @@ module _ (n m : ℕ) (counts : countsRefusal n m ≡ none) where
         bytes-in-parts k rest,
       )
 
-  module _ (at room : ℕ) (within : at ≤ length (plan n m)) (roomy : 8 ≤ room) where
+  module _ (at room : ℕ) (within : at ≤ length (plan n m)) (roomy : longestOrder ≤ room) where
     pub call-accepted : writeRefusal plan n m at room ≡ none
     unfolding writeRefusal
     call-accepted = ap (λ (r : Refusal). first r (roomRefusal room)) (within-total plan n m at counts within) ∙ simp (le-ltb _ _ roomy)
@@ -94,7 +94,7 @@ module _ (n m : ℕ) (counts : countsRefusal n m ≡ none) where
             absurd (let x : ⊥ = omega (arith, gives-orders, some-fits (plan n m) at (Constant 0 0) room h short roomy) in x)
         go (more h) = omega arith
 
-  module _ (at : ℕ) (out : List ℕ) (within : at ≤ length (plan n m)) (roomy : 8 ≤ length out) where
+  module _ (at : ℕ) (out : List ℕ) (within : at ≤ length (plan n m)) (roomy : longestOrder ≤ length out) where
     -- the bytes written are those given
     gives : writerReply plan n m at out .bytes ≡ bytesWritten plan n m at (length out)
     unfolding writtenCounts
@@ -124,7 +124,7 @@ module _ (n m : ℕ) (counts : countsRefusal n m ≡ none) where
 
   -- ---- a call at the end
 
-  module _ (out : List ℕ) (roomy : 8 ≤ length out) where
+  module _ (out : List ℕ) (roomy : longestOrder ≤ length out) where
     abbrev end : ℕ
     end = length (plan n m)
 
@@ -162,7 +162,7 @@ module _ (n m : ℕ) (counts : countsRefusal n m ≡ none) where
     on : w .stopped ≡ false → at + k ≤ w .position
 
   -- one call, and a walk from the next position
-  after-call : (at : ℕ) (out : List ℕ) (k : ℕ) (later : Walk) → at ≤ length (plan n m) → 8 ≤ length out
+  after-call : (at : ℕ) (out : List ℕ) (k : ℕ) (later : Walk) → at ≤ length (plan n m) → longestOrder ≤ length out
       → Walked (writerReply plan n m at out .next) k later → Walked at (suc k) (afterCall at (writerReply plan n m at out) (λ next. later))
   after-call at out k later within roomy rest = go (goesOn (writerReply plan n m at out)) refl
     where

@@ -5,7 +5,7 @@ use mathlib.Core.List.{List, [], _∷_, _++_}
 use lib.Dec.{ltb, eqb}
 use lib.ListN.{length, take}
 use Rattle.definitions.specs.Answers.{numberOf}
-use Rattle.definitions.specs.Plan.{Plan, Written, writeRefusal, writeCounts, writeSlice}
+use Rattle.definitions.specs.Plan.{Plan, Written, writeRefusal, writeCounts, writeSlice, longestOrder}
 
 -- what a call gives its caller: the refusal's number, 0 for none, the bytes written, how many orders they are, and the next position
 pub record Reply : Type 0 where
@@ -53,4 +53,4 @@ writerReply P n m at out = replyOf (numberOf (writeRefusal P n m at (length out)
 -- each slice has 8 bytes at least
 abbrev pub Roomy : List (List ℕ) → Type 0
 Roomy [] = Unit {0}
-Roomy (out ∷ outs) = (8 ≤ length out) × Roomy outs
+Roomy (out ∷ outs) = (longestOrder ≤ length out) × Roomy outs

@@ -28,15 +28,6 @@ bookAt s = book (s .args .n) (s .args .m) (s .args .bids .now) (s .args .capacit
 lentAt : tie.Start → List ℕ
 lentAt s = s .args .sheet .now
 
-seal-requires : tie.Need-seal-requires
-seal-requires c κs = search needs
-
-is-accepted-requires : tie.Need-is-accepted-requires
-is-accepted-requires c κs = search needs
-
-same-length : tie.Need-same-length
-same-length c = search needs
-
 returns : tie.Need-returns
 unfolding bookAt lentAt
 returns c =
@@ -55,9 +46,6 @@ accepted : (c : tie.Else1) → let start = c .before .before .before .before .be
 unfolding bookAt lentAt
 accepted c = let-through (c .before .before .before .before .seal .ensures .0) (c .before .is-accepted .ensures) (c .if1 .left)
 
-run-plan-requires : tie.Need-run-plan-requires
-run-plan-requires c κs = search needs
-
 -- the sheet after the plan
 ran : (c : tie.After-run-plan) → let start = c .before .before .before .before .before .before .before .before .before in c .run-plan .last .1 .1 .0 ≡ planRun plan (bookAt start)
 unfolding bookAt lentAt
@@ -71,9 +59,6 @@ welfare-of-requires c κs =
     let start = c .before .before .before .before .before .before .before .before .before .before .before .before in
     subst (AmountsWithin (start .args .n) (start .args .m) (start .args .bids .now)) (sym (ran (c .before .before .before)))
     (amounts-within (bookAt start) (lentAt start) (accepted (c .before .before .before .before .before)))
-
-same-length-2 : tie.Need-same-length-2
-same-length-2 c = search needs
 
 returns-2 : tie.Need-returns-2
 unfolding bookAt lentAt
@@ -101,11 +86,11 @@ pub clear-spec : {M : Type 1} → statement M
 clear-spec =
     tie.close
     (tie.spec
-    seal-requires
-    is-accepted-requires
-    same-length
+    (λ c κs. search needs)
+    (λ c κs. search needs)
+    (λ c. search needs)
     returns
-    run-plan-requires
+    (λ c κs. search needs)
     welfare-of-requires
-    same-length-2
+    (λ c. search needs)
     returns-2)

@@ -15,9 +15,6 @@ use Rattle.clearing.proofs.welfare_of.Tie as tie
 end : (c : tie.After-shared-slice-known) → firstResult (c .before .args .n) (c .before .args .m) + c .before .args .n ≤ cellCount
 end c = amounts-end (c .before .args .n) (c .before .args .m) (c .before .pre .few-bids) (c .before .pre .few-pools)
 
-mul-first : tie.Need-mul-first
-mul-first c = search needs
-
 mul-first-2 : tie.Need-mul-first-2
 mul-first-2 c = omega (arith, end c)
 
@@ -29,12 +26,6 @@ add-last c = omega (arith, end c)
 
 mul-welfare : tie.Need-mul-welfare
 mul-welfare c = omega (arith, end c)
-
-sub-welfare : tie.Need-sub-welfare
-sub-welfare c = search needs
-
-part-welfare-start : tie.Need-part-welfare-start
-part-welfare-start c = search needs
 
 part-welfare-end : tie.Need-part-welfare-end
 part-welfare-end c = omega (arith, end c, c .before .pre .cells)
@@ -51,19 +42,20 @@ returns c capacities =
     let start = c .before .before .before in
     let first : ℕ = firstResult (start .args .n) (start .args .m) in
     back w64 _ (c .welfare .ok)
-    ∙ amounts-welfare (start .args .n) (start .args .m) (start .args .bids .now) (start .args .sheet .now) (start .pre) (first + start .args .n - first) (omega arith) (c .welfare .result) (c .welfare .ensures) capacities
+    ∙ amounts-welfare (start .args .n) (start .args .m) (start .args .bids .now) (start .args .sheet .now) (start .pre)
+    (first + start .args .n - first) (omega arith) (c .welfare .result) (c .welfare .ensures) capacities
 
 pub welfare-of-spec : {M : Type 1} → statement M
 welfare-of-spec =
     tie.close
     (tie.spec
-    mul-first
+    (λ c. search needs)
     mul-first-2
     add-first
     add-last
     mul-welfare
-    sub-welfare
-    part-welfare-start
+    (λ c. search needs)
+    (λ c. search needs)
     part-welfare-end
     welfare-requires
     returns)

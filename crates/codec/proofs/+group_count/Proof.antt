@@ -47,7 +47,11 @@ group-count-group-count-requires : (t : ℕ) → group-count-lts.Need-group-coun
   group-count-below t,
   group-count.Post,
 ) (group-count-at t) group-count.Post
-group-count-group-count-requires t c κs = let s = c .before .before in let h : 0 < s .args .g = positive _ (c .before .if1 .left) in let e : s .args .g ≡ t = s .pre .0 in (omega arith, omega (arith, s .pre .1))
+group-count-group-count-requires t c κs =
+    let s = c .before .before in
+    let h : 0 < s .args .g = positive _ (c .before .if1 .left) in
+    let e : s .args .g ≡ t = s .pre .0 in
+    (omega arith, omega (arith, s .pre .1))
 
 group-count-add-result : (t : ℕ) → group-count-lts.Need-add-result (
   group-count-below t,
@@ -59,7 +63,9 @@ group-count-returns-3 : (t : ℕ) → group-count-lts.Need-returns-3 (
   group-count-below t,
   group-count.Post,
 ) (group-count-at t) group-count.Post
-group-count-returns-3 t c = omega (arith, c .group-count .ensures, ap length (groups-more (c .before .before .before .args .g) (c .before .before .before .args .v) (c .before .before .if1 .left) (c .before .if2 .left)))
+group-count-returns-3 t c =
+    let a = c .before .before .before .args in
+    omega (arith, c .group-count .ensures, ap length (groups-more (a .g) (a .v) (c .before .before .if1 .left) (c .before .if2 .left)))
 
 pub +group-count-spec : {M : Type 1} → statement M
 +group-count-spec = close μ-group-count λ t. group-count-lts.spec (

@@ -28,10 +28,12 @@ abbrev put-groups-below : ℕ → In 1 put-groups-kinds.ps
 put-groups-below t = and 1 put-groups-kinds.ps (falls 1 put-groups-kinds.ps _<_ μ-put-groups t) put-groups.Pre
 
 -- the number's bytes, where it has one group, and where it has more
-lone : (t : ℕ) (c : put-groups-lts.Then2 (put-groups-below t, put-groups.Post) (put-groups-at t) put-groups.Post) → groups (c .before .before .before .args .g) (c .before .before .before .args .v) ≡ c .before .before .before .args .v ∷ []
+lone : (t : ℕ) (c : put-groups-lts.Then2 (put-groups-below t, put-groups.Post) (put-groups-at t) put-groups.Post)
+    → groups (c .before .before .before .args .g) (c .before .before .before .args .v) ≡ c .before .before .before .args .v ∷ []
 lone t c = groups-last _ _ (c .before .if1 .left) (c .if2 .taken)
 
-several : (t : ℕ) (c : put-groups-lts.Else2 (put-groups-below t, put-groups.Post) (put-groups-at t) put-groups.Post) → let a = c .before .before .before .args in groups (a .g) (a .v) ≡ (a .v % 128 + 128) ∷ groups (a .g - 1) (a .v / 128)
+several : (t : ℕ) (c : put-groups-lts.Else2 (put-groups-below t, put-groups.Post) (put-groups-at t) put-groups.Post)
+    → let a = c .before .before .before .args in groups (a .g) (a .v) ≡ (a .v % 128 + 128) ∷ groups (a .g - 1) (a .v / 128)
 several t c = groups-more _ _ (c .before .if1 .left) (c .if2 .left)
 
 put-groups-returns : (t : ℕ) → put-groups-lts.Need-returns (put-groups-below t, put-groups.Post) (put-groups-at t) put-groups.Post

@@ -11,7 +11,7 @@ use Rattle.definitions.specs.Bytes.{mostGroups, readGroups, lastGroup, moreGrou
 use Rattle.codec.specs.declared.ReadGroups.{ReadGroups}
 use Rattle.codec.specs.declared.ReadGroups.the-variants.{Short, Bad, Number}
 use Rattle.codec.specs.Answer.{groupsAnswer}
-use Rattle.codec.specs.Groups.{groupsLimit, limit-grows, Shortest, only-shortest}
+use Rattle.codec.specs.Groups.{groupsLimit, limit-grows, ShortestGroups, only-shortest-groups}
 use Rattle.laws.specs.Tests.{positive}
 use Rattle.codec.proofs.Places.{no-groups, no-bytes, a-byte}
 use borrow.Fn.Kinds.{In}
@@ -56,13 +56,14 @@ goes-on t c r e =
 -- what is known of the rest of the number
 rest-of : (t : ℕ) (c : read-groups-lts.After-known-told (read-groups-below t, read-groups.Post) (read-groups-at t) read-groups.Post) →
     let a = c .before .before .before .before .before .before .before .before .before .args in
-    Shortest (a .g - 1) false (drop (a .at + 1) (a .bytes .now)) (c .before .v .given .0 .0) (c .before .v .given .0 .1 .0)
+    ShortestGroups (a .g - 1) false (drop (a .at + 1) (a .bytes .now)) (c .before .v .given .0 .0) (c .before .v .given .0 .1 .0)
 rest-of t c =
     let a = c .before .before .before .before .before .before .before .before .before .args in
-    only-shortest (a .g - 1) false (drop (a .at + 1) (a .bytes .now)) _ _ (sym (c .before .before .before .read-groups .ensures) ∙ ap groupsAnswer (c .before .v .given .1))
+    only-shortest-groups (a .g - 1) false (drop (a .at + 1) (a .bytes .now)) _ _ (sym (c .before .before .before .read-groups .ensures) ∙ ap groupsAnswer (c .before .v .given .1))
 
 -- so its value and its bytes are those of a number of the most groups
-bounded : (t : ℕ) (c : read-groups-lts.After-known-told (read-groups-below t, read-groups.Post) (read-groups-at t) read-groups.Post) → (c .before .v .given .0 .0 < groupsLimit mostGroups) × (c .before .v .given .0 .1 .0 ≤ mostGroups)
+bounded : (t : ℕ) (c : read-groups-lts.After-known-told (read-groups-below t, read-groups.Post) (read-groups-at t) read-groups.Post)
+    → (c .before .v .given .0 .0 < groupsLimit mostGroups) × (c .before .v .given .0 .1 .0 ≤ mostGroups)
 bounded t c =
     let r = rest-of t c in
     let s = c .before .before .before .before .before .before .before .before .before in

@@ -6,12 +6,6 @@ use borrow.Author.Needs.{needs}
 use Rattle.codec.proofs.limited.Statement.{statement}
 use Rattle.codec.proofs.limited.Tie as tie
 
-enum-known-number : tie.Need-enum-known-number
-enum-known-number c = search needs
-
-enum-known-number-2 : tie.Need-enum-known-number-2
-enum-known-number-2 c = search needs
-
 returns : tie.Need-returns
 returns c = rw (ap numberAnswer (c .before .before .number .given .1)) (simp (lt-ltb _ _ (c .if1 .taken)))
 
@@ -23,4 +17,4 @@ returns-3 c = rw (ap numberAnswer (c .before .number2 .given .1)) refl
 
 pub limited-spec : {M : Type 1} → statement M
 limited-spec =
-    tie.close (tie.spec enum-known-number enum-known-number-2 returns returns-2 returns-3)
+    tie.close (tie.spec (λ c. search needs) (λ c. search needs) returns returns-2 returns-3)

@@ -6,12 +6,9 @@ use borrow.Author.Needs.{needs}
 use Rattle.codec.proofs.number_size.Statement.{statement}
 use Rattle.codec.proofs.number_size.Tie as tie
 
-group-count-requires : tie.Need-group-count-requires
-group-count-requires c κs = search needs
-
 returns : tie.Need-returns
 unfolding numberBytes
 returns c = (c .group-count .ensures, omega (arith, c .group-count .ensures, at-most mostGroups (c .before .args .v)))
 
 pub number-size-spec : {M : Type 1} → statement M
-number-size-spec = tie.close (tie.spec group-count-requires returns)
+number-size-spec = tie.close (tie.spec (λ c κs. search needs) returns)

@@ -14,30 +14,6 @@ use Rattle.codec.proofs.order_size.Tie as tie
 whole : (c : tie.After-parts-of) → orderBytes (c .before .args .order) ≡ partsBytes (c .parts-of .result)
 whole c = bytes-parts (c .before .args .order) ∙ ap partsBytes (sym (c .parts-of .ensures))
 
-parts-of-requires : tie.Need-parts-of-requires
-parts-of-requires c κs = search needs
-
-cast-number-size : tie.Need-cast-number-size
-cast-number-size c = search needs
-
-number-size-requires : tie.Need-number-size-requires
-number-size-requires c κs = search needs
-
-number-size-requires-2 : tie.Need-number-size-requires-2
-number-size-requires-2 c κs = search needs
-
-add-size : tie.Need-add-size
-add-size c = search needs
-
-cast-number-size-2 : tie.Need-cast-number-size-2
-cast-number-size-2 c = search needs
-
-number-size-requires-3 : tie.Need-number-size-requires-3
-number-size-requires-3 c κs = search needs
-
-add-result : tie.Need-add-result
-add-result c = search needs
-
 returns : tie.Need-returns
 returns c =
     let two = c .before .before .before .before in
@@ -53,18 +29,6 @@ returns c =
       two .number-size2 .ensures .0,
       c .number-size3 .ensures .0,
     )
-
-number-size-requires-4 : tie.Need-number-size-requires-4
-number-size-requires-4 c κs = search needs
-
-add-result-2 : tie.Need-add-result-2
-add-result-2 c = search needs
-
-number-size-requires-5 : tie.Need-number-size-requires-5
-number-size-requires-5 c κs = search needs
-
-add-result-3 : tie.Need-add-result-3
-add-result-3 c = search needs
 
 returns-2 : tie.Need-returns-2
 returns-2 c =
@@ -88,17 +52,17 @@ pub order-size-spec : {M : Type 1} → statement M
 order-size-spec =
     tie.close
     (tie.spec
-    parts-of-requires
-    cast-number-size
-    number-size-requires
-    number-size-requires-2
-    add-size
-    cast-number-size-2
-    number-size-requires-3
-    add-result
+    (λ c κs. search needs)
+    (λ c. search needs)
+    (λ c κs. search needs)
+    (λ c κs. search needs)
+    (λ c. search needs)
+    (λ c. search needs)
+    (λ c κs. search needs)
+    (λ c. search needs)
     returns
-    number-size-requires-4
-    add-result-2
-    number-size-requires-5
-    add-result-3
+    (λ c κs. search needs)
+    (λ c. search needs)
+    (λ c κs. search needs)
+    (λ c. search needs)
     returns-2)

@@ -8,12 +8,9 @@ put-groups-requires : tie.Need-put-groups-requires
 unfolding numberBytes
 put-groups-requires c κs = c .before .before .pre
 
-same-length : tie.Need-same-length
-same-length c = search needs
-
 returns : tie.Need-returns
 unfolding numberBytes
 returns c = c .before .before .put-groups .ensures
 
 pub put-number-spec : {M : Type 1} → statement M
-put-number-spec = tie.close (tie.spec put-groups-requires same-length returns)
+put-number-spec = tie.close (tie.spec put-groups-requires (λ c. search needs) returns)

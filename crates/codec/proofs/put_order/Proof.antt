@@ -25,12 +25,6 @@ cells-are : (c : tie.Else1) → let q = c .before .before .before .before .befor
     orderBytes (q .before .before .args .order) ≡ headBytes (q .parts-of .result) ++ (numberBytes (q .parts-of .result .a) ++ numberBytes (q .parts-of .result .b))
 cells-are c = whole (c .before .before .before .before .before .before .before) ∙ simp (ne-eqb _ _ (c .if1 .left))
 
-parts-of-requires : tie.Need-parts-of-requires
-parts-of-requires c κs = search needs
-
-cast-put-two : tie.Need-cast-put-two
-cast-put-two c = search needs
-
 put-two-requires : tie.Need-put-two-requires
 put-two-requires c κs =
     let q = c .before .before in
@@ -42,9 +36,6 @@ put-two-requires c κs =
       q .before .before .pre,
     )
 
-cast-put-number : tie.Need-cast-put-number
-cast-put-number c = search needs
-
 put-number-requires : tie.Need-put-number-requires
 put-number-requires c κs =
     let two = c .before .before .before .before .before .before in
@@ -53,9 +44,6 @@ put-number-requires c κs =
     let p = q .parts-of .result in
     let h : s .args .at + length (headBytes p ++ numberBytes (p .k)) ≤ length (s .args .out .now) = omega (arith, ap length (constant-is (c .before .before)), s .pre) in
     second-room (s .args .at) (two .put-two .result) (headBytes p) (numberBytes (p .k)) (s .args .out .now) (two .put-two .last .0) h (two .put-two .ensures .0) (two .put-two .kept .0)
-
-same-length : tie.Need-same-length
-same-length c = search needs
 
 returns : tie.Need-returns
 returns c =
@@ -76,10 +64,8 @@ put-two-requires-2 c κs =
     let s = q .before .before in
     let p = q .parts-of .result in
     let h : s .args .at + length (headBytes p ++ (numberBytes (p .a) ++ numberBytes (p .b))) ≤ length (s .args .out .now) = omega (arith, ap length (cells-are (c .before)), s .pre) in
-    second-room (s .args .at) (two .put-two .result) (headBytes p) (numberBytes (p .a) ++ numberBytes (p .b)) (s .args .out .now) (two .put-two .last .0) h (two .put-two .ensures .0) (two .put-two .kept .0)
-
-same-length-2 : tie.Need-same-length-2
-same-length-2 c = search needs
+    second-room (s .args .at) (two .put-two .result) (headBytes p) (numberBytes (p .a) ++ numberBytes (p .b)) (s .args .out .now)
+    (two .put-two .last .0) h (two .put-two .ensures .0) (two .put-two .kept .0)
 
 returns-2 : tie.Need-returns-2
 returns-2 c =
@@ -97,13 +83,13 @@ pub put-order-spec : {M : Type 1} → statement M
 put-order-spec =
     tie.close
     (tie.spec
-    parts-of-requires
-    cast-put-two
+    (λ c κs. search needs)
+    (λ c. search needs)
     put-two-requires
-    cast-put-number
+    (λ c. search needs)
     put-number-requires
-    same-length
+    (λ c. search needs)
     returns
     put-two-requires-2
-    same-length-2
+    (λ c. search needs)
     returns-2)

@@ -16,9 +16,6 @@ put-number-requires-2 c κs =
     let p = c .before .before .before .put-number in
     second-room (s .args .at) (p .result) (numberBytes (s .args .v)) (numberBytes (s .args .w)) (s .args .out .now) (p .last .0) (s .pre) (p .ensures .0) (p .kept .0)
 
-same-length : tie.Need-same-length
-same-length c = search needs
-
 returns : tie.Need-returns
 returns c =
     let a = c .before .before .before .before .before .before .before .before .before .args in
@@ -27,4 +24,4 @@ returns c =
     both (a .out .now) (p .last .0) (q .last .0) (a .at) (p .result) (q .result) (numberBytes (a .v)) (numberBytes (a .w)) (p .ensures .0) (p .ensures .1) (q .ensures .0) (q .ensures .1)
 
 pub put-two-spec : {M : Type 1} → statement M
-put-two-spec = tie.close (tie.spec put-number-requires put-number-requires-2 same-length returns)
+put-two-spec = tie.close (tie.spec put-number-requires put-number-requires-2 (λ c. search needs) returns)

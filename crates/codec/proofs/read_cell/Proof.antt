@@ -9,12 +9,6 @@ use borrow.Author.Needs.{needs}
 use Rattle.codec.proofs.read_cell.Statement.{statement}
 use Rattle.codec.proofs.read_cell.Tie as tie
 
-read-number-requires : tie.Need-read-number-requires
-read-number-requires c κs = search needs
-
-limited-requires : tie.Need-limited-requires
-limited-requires c κs = search needs
-
 returns : tie.Need-returns
 unfolding cellAt
 returns c =
@@ -24,4 +18,4 @@ returns c =
     ∙ limited-below (a .start) cellCount 12 (numberAt (a .bytes .now) (a .at))
 
 pub read-cell-spec : {M : Type 1} → statement M
-read-cell-spec = tie.close (tie.spec read-number-requires limited-requires returns)
+read-cell-spec = tie.close (tie.spec (λ c κs. search needs) (λ c κs. search needs) returns)

@@ -9,15 +9,6 @@ use borrow.Author.Needs.{needs}
 use Rattle.codec.proofs.read_constant.Statement.{statement}
 use Rattle.codec.proofs.read_constant.Tie as tie
 
-read-number-requires : tie.Need-read-number-requires
-read-number-requires c κs = search needs
-
-cast-limited : tie.Need-cast-limited
-cast-limited c = search needs
-
-limited-requires : tie.Need-limited-requires
-limited-requires c κs = search needs
-
 returns : tie.Need-returns
 unfolding constantAt
 returns c =
@@ -28,4 +19,4 @@ returns c =
 
 pub read-constant-spec : {M : Type 1} → statement M
 read-constant-spec =
-    tie.close (tie.spec read-number-requires cast-limited limited-requires returns)
+    tie.close (tie.spec (λ c κs. search needs) (λ c. search needs) (λ c κs. search needs) returns)

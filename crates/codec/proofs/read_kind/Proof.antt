@@ -8,12 +8,6 @@ use borrow.Author.Needs.{needs}
 use Rattle.codec.proofs.read_kind.Statement.{statement}
 use Rattle.codec.proofs.read_kind.Tie as tie
 
-read-number-requires : tie.Need-read-number-requires
-read-number-requires c κs = search needs
-
-limited-requires : tie.Need-limited-requires
-limited-requires c κs = search needs
-
 returns : tie.Need-returns
 unfolding kindAt
 returns c =
@@ -23,4 +17,4 @@ returns c =
     ∙ limited-below (a .start) 6 10 (numberAt (a .bytes .now) (a .start))
 
 pub read-kind-spec : {M : Type 1} → statement M
-read-kind-spec = tie.close (tie.spec read-number-requires limited-requires returns)
+read-kind-spec = tie.close (tie.spec (λ c κs. search needs) (λ c κs. search needs) returns)

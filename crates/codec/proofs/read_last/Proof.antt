@@ -11,18 +11,6 @@ use Rattle.codec.proofs.read_last.Tie as tie
 abbrev whole : (kind d a : ℕ) → ℕ → ℕ → Read Order
 whole kind d a b next = ofKind kind next (cellsOrders d a b)
 
-read-cell-requires : tie.Need-read-cell-requires
-read-cell-requires c κs = search needs
-
-enum-known-verdict : tie.Need-enum-known-verdict
-enum-known-verdict c = search needs
-
-enum-known-b : tie.Need-enum-known-b
-enum-known-b c = search needs
-
-cells-order-requires : tie.Need-cells-order-requires
-cells-order-requires c κs = search needs
-
 returns : tie.Need-returns
 unfolding lastAt
 returns c =
@@ -40,9 +28,9 @@ pub read-last-spec : {M : Type 1} → statement M
 read-last-spec =
     tie.close
     (tie.spec
-    read-cell-requires
-    enum-known-verdict
-    enum-known-b
-    cells-order-requires
+    (λ c κs. search needs)
+    (λ c. search needs)
+    (λ c. search needs)
+    (λ c κs. search needs)
     returns
     returns-2)

@@ -6,32 +6,21 @@ use lib.ListN.{drop, length-drop}
 use borrow.Author.Tests.{lt-ltb, le-ltb}
 use Rattle.definitions.specs.Bytes.{mostGroups, numberLimit, number, readGroups, numberAt}
 use Rattle.codec.specs.Answer.{groupsAnswer}
-use Rattle.codec.specs.Groups.{only-shortest}
+use Rattle.codec.specs.Groups.{only-shortest-groups}
 use borrow.Author.Needs.{needs}
 use Rattle.codec.proofs.read_number.Statement.{statement}
 use Rattle.codec.proofs.read_number.Tie as tie
 
 -- what was read
-read-there : (c : tie.After-known-told) → let a = c .before .before .before .before .before .args in readGroups mostGroups true (drop (a .at) (a .bytes .now)) ≡ number (c .before .v .given .0 .0) (c .before .v .given .0 .1 .0)
+read-there : (c : tie.After-known-told) → let a = c .before .before .before .before .before .args in
+    readGroups mostGroups true (drop (a .at) (a .bytes .now)) ≡ number (c .before .v .given .0 .0) (c .before .v .given .0 .1 .0)
 read-there c = sym (c .before .before .before .read-groups .ensures) ∙ ap groupsAnswer (c .before .v .given .1)
-
-read-groups-requires : tie.Need-read-groups-requires
-read-groups-requires c κs = search needs
-
-enum-told : tie.Need-enum-told
-enum-told c = search needs
-
-enum-told-2 : tie.Need-enum-told-2
-enum-told-2 c = search needs
-
-enum-known-v : tie.Need-enum-known-v
-enum-known-v c = search needs
 
 add-t12 : tie.Need-add-t12
 add-t12 c =
     let s = c .before .before .before .before .before .before in
     let a = s .args in
-    let r = only-shortest mostGroups true (drop (a .at) (a .bytes .now)) _ _ (read-there (c .before)) in
+    let r = only-shortest-groups mostGroups true (drop (a .at) (a .bytes .now)) _ _ (read-there (c .before)) in
     omega (arith, r .inside, length-drop (a .at) (a .bytes .now), s .fits .at, s .good)
 
 returns : tie.Need-returns
@@ -54,10 +43,10 @@ pub read-number-spec : {M : Type 1} → statement M
 read-number-spec =
     tie.close
     (tie.spec
-    read-groups-requires
-    enum-told
-    enum-told-2
-    enum-known-v
+    (λ c κs. search needs)
+    (λ c. search needs)
+    (λ c. search needs)
+    (λ c. search needs)
     add-t12
     returns
     returns-2

@@ -5,18 +5,6 @@ use borrow.Author.Needs.{needs}
 use Rattle.codec.proofs.read_order.Statement.{statement}
 use Rattle.codec.proofs.read_order.Tie as tie
 
-read-kind-requires : tie.Need-read-kind-requires
-read-kind-requires c κs = search needs
-
-enum-known-verdict : tie.Need-enum-known-verdict
-enum-known-verdict c = search needs
-
-enum-known-kind : tie.Need-enum-known-kind
-enum-known-kind c = search needs
-
-read-target-requires : tie.Need-read-target-requires
-read-target-requires c κs = search needs
-
 returns : tie.Need-returns
 unfolding orderAt
 returns c =
@@ -33,9 +21,9 @@ pub read-order-spec : {M : Type 1} → statement M
 read-order-spec =
     tie.close
     (tie.spec
-    read-kind-requires
-    enum-known-verdict
-    enum-known-kind
-    read-target-requires
+    (λ c κs. search needs)
+    (λ c. search needs)
+    (λ c. search needs)
+    (λ c κs. search needs)
     returns
     returns-2)

@@ -16,31 +16,10 @@ use Rattle.codec.proofs.read_rest.Tie as tie
 abbrev whole : (d : ℕ) → ℕ → ℕ → Read Order
 whole d k next = found (Constant d k) next
 
-read-constant-requires : tie.Need-read-constant-requires
-read-constant-requires c κs = search needs
-
-enum-known-verdict : tie.Need-enum-known-verdict
-enum-known-verdict c = search needs
-
-enum-known-k : tie.Need-enum-known-k
-enum-known-k c = search needs
-
 cast-t16 : tie.Need-cast-t16
 cast-t16 c =
     let a = c .before .before .before .before .before .before .args in
     omega (arith, constant-below (a .bytes .now) (a .at) _ _ (answer-found (a .start) (constantAt (a .bytes .now) (a .at)) _ _ (sym (ap numberAnswer (c .before .k .given .1)) ∙ c .before .before .before .read-constant .ensures)))
-
-read-cell-requires : tie.Need-read-cell-requires
-read-cell-requires c κs = search needs
-
-enum-known-verdict-2 : tie.Need-enum-known-verdict-2
-enum-known-verdict-2 c = search needs
-
-enum-known-a : tie.Need-enum-known-a
-enum-known-a c = search needs
-
-read-last-requires : tie.Need-read-last-requires
-read-last-requires c κs = search needs
 
 returns : tie.Need-returns
 unfolding restAt
@@ -74,14 +53,14 @@ pub read-rest-spec : {M : Type 1} → statement M
 read-rest-spec =
     tie.close
     (tie.spec
-    read-constant-requires
-    enum-known-verdict
-    enum-known-k
+    (λ c κs. search needs)
+    (λ c. search needs)
+    (λ c. search needs)
     cast-t16
-    read-cell-requires
-    enum-known-verdict-2
-    enum-known-a
-    read-last-requires
+    (λ c κs. search needs)
+    (λ c. search needs)
+    (λ c. search needs)
+    (λ c κs. search needs)
     returns
     returns-2
     returns-3

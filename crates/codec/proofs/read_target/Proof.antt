@@ -5,18 +5,6 @@ use borrow.Author.Needs.{needs}
 use Rattle.codec.proofs.read_target.Statement.{statement}
 use Rattle.codec.proofs.read_target.Tie as tie
 
-read-cell-requires : tie.Need-read-cell-requires
-read-cell-requires c κs = search needs
-
-enum-known-verdict : tie.Need-enum-known-verdict
-enum-known-verdict c = search needs
-
-enum-known-d : tie.Need-enum-known-d
-enum-known-d c = search needs
-
-read-rest-requires : tie.Need-read-rest-requires
-read-rest-requires c κs = search needs
-
 returns : tie.Need-returns
 unfolding targetAt
 returns c =
@@ -27,15 +15,16 @@ returns-2 : tie.Need-returns-2
 unfolding targetAt
 returns-2 c =
     let a = c .before .before .before .before .before .before .args in
-    found-then (a .start) (cellAt (a .bytes .now) (a .at)) (restAt (a .bytes .now) (a .kind)) (c .before .before .d .given .1) (c .before .before .before .before .read-cell .ensures) (c .read-rest .ensures)
+    found-then (a .start) (cellAt (a .bytes .now) (a .at)) (restAt (a .bytes .now) (a .kind)) (c .before .before .d .given .1)
+    (c .before .before .before .before .read-cell .ensures) (c .read-rest .ensures)
 
 pub read-target-spec : {M : Type 1} → statement M
 read-target-spec =
     tie.close
     (tie.spec
-    read-cell-requires
-    enum-known-verdict
-    enum-known-d
-    read-rest-requires
+    (λ c κs. search needs)
+    (λ c. search needs)
+    (λ c. search needs)
+    (λ c κs. search needs)
     returns
     returns-2)

@@ -16,23 +16,11 @@ returns c =
     let h : length (a .out .now) < a .at + length (orderBytes (a .order)) = omega (arith, c .if1 .taken) in
     (sym (size-without-room (a .out .now) (a .at) (a .order) h), sym (bytes-without-room (a .out .now) (a .at) (a .order) h))
 
-order-size-requires : tie.Need-order-size-requires
-order-size-requires c κs = search needs
-
-sub-if2 : tie.Need-sub-if2
-sub-if2 c = search needs
-
 returns-2 : tie.Need-returns-2
 returns-2 c =
     let a = c .before .before .before .before .args in
     let h : length (a .out .now) < a .at + length (orderBytes (a .order)) = omega (arith, c .if2 .taken, c .before .order-size .ensures) in
     (sym (size-without-room (a .out .now) (a .at) (a .order) h), sym (bytes-without-room (a .out .now) (a .at) (a .order) h))
-
-put-order-requires : tie.Need-put-order-requires
-put-order-requires c κs = search needs
-
-same-length : tie.Need-same-length
-same-length c = search needs
 
 returns-3 : tie.Need-returns-3
 returns-3 c =
@@ -48,9 +36,9 @@ write-order-spec =
     tie.close
     (tie.spec
     returns
-    order-size-requires
-    sub-if2
+    (λ c κs. search needs)
+    (λ c. search needs)
     returns-2
-    put-order-requires
-    same-length
+    (λ c κs. search needs)
+    (λ c. search needs)
     returns-3)

@@ -9,12 +9,6 @@ use Rattle.laws.specs.Search.{first-to-refuse, let-through, after-none}
 use Rattle.host.proofs.judge_slice.Statement.{statement}
 use Rattle.host.proofs.judge_slice.Tie as tie
 
-judge-counts-requires : tie.Need-judge-counts-requires
-judge-counts-requires c κs = search needs
-
-is-accepted-requires : tie.Need-is-accepted-requires
-is-accepted-requires c κs = search needs
-
 returns : tie.Need-returns
 returns c =
     let a = c .before .before .before .args in
@@ -36,4 +30,4 @@ returns-3 c =
 
 pub judge-slice-spec : {M : Type 1} → statement M
 judge-slice-spec =
-    tie.close (tie.spec judge-counts-requires is-accepted-requires returns returns-2 returns-3)
+    tie.close (tie.spec (λ c κs. search needs) (λ c κs. search needs) returns returns-2 returns-3)

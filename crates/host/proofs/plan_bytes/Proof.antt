@@ -29,15 +29,6 @@ roomOf s = roomRefusal (length (s .args .bytes .now))
 abbrev wholeOf : tie.Start → Refusal
 wholeOf s = bytesRefusal plan (s .args .n) (s .args .m) (s .args .position) (length (s .args .bytes .now)) (length (s .args .out .now))
 
-judge-slice-requires : tie.Need-judge-slice-requires
-judge-slice-requires c κs = search needs
-
-is-accepted-requires : tie.Need-is-accepted-requires
-is-accepted-requires c κs = search needs
-
-number-requires : tie.Need-number-requires
-number-requires c κs = search needs
-
 -- ---- 1, 2 or 3
 
 by-slice : (c : tie.Then1) → let judged = c .before .before in refusalOf (judged .judge-slice .result) ≡ wholeOf (judged .before .before .before)
@@ -60,15 +51,6 @@ returns c =
       ),
     )
 
-write-plan-requires : tie.Need-write-plan-requires
-write-plan-requires c κs = search needs
-
-is-accepted-requires-2 : tie.Need-is-accepted-requires-2
-is-accepted-requires-2 c κs = search needs
-
-number-requires-2 : tie.Need-number-requires-2
-number-requires-2 c κs = search needs
-
 -- ---- 13 or 14, or none: the writer's verdict is that of the whole call
 
 same-refusal : (c : tie.Else1) → let s = c .before .before .before .before .before in
@@ -80,9 +62,6 @@ same-refusal c =
 
 by-writer : (c : tie.After-write-plan) → refusalOf (c .write-plan .result .verdict) ≡ wholeOf (c .before .before .before .before .before .before .before)
 by-writer c = c .write-plan .ensures .0 ∙ same-refusal (c .before .before)
-
-same-length : tie.Need-same-length
-same-length c = search needs
 
 returns-2 : tie.Need-returns-2
 returns-2 c =
@@ -108,12 +87,6 @@ put-counts-requires c κs =
     let a = c .before .before .before .before .before .before .before .before .before .before .before .before .args in
     bytes-length plan (a .n) (a .m) (a .position) (a .bytes .now) (a .out .now) (passed (c .before))
 
-same-length-2 : tie.Need-same-length-2
-same-length-2 c = search needs
-
-same-length-3 : tie.Need-same-length-3
-same-length-3 c = search needs
-
 returns-3 : tie.Need-returns-3
 returns-3 c =
     let test = c .before .before .before .before in
@@ -137,16 +110,16 @@ pub plan-bytes-spec : {M : Type 1} → statement M
 plan-bytes-spec =
     tie.close
     (tie.spec
-    judge-slice-requires
-    is-accepted-requires
-    number-requires
+    (λ c κs. search needs)
+    (λ c κs. search needs)
+    (λ c κs. search needs)
     returns
-    write-plan-requires
-    is-accepted-requires-2
-    number-requires-2
-    same-length
+    (λ c κs. search needs)
+    (λ c κs. search needs)
+    (λ c κs. search needs)
+    (λ c. search needs)
     returns-2
     put-counts-requires
-    same-length-2
-    same-length-3
+    (λ c. search needs)
+    (λ c. search needs)
     returns-3)

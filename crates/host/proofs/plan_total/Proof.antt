@@ -13,15 +13,6 @@ use Rattle.host.specs.Calls.{total-counts, total-length, total-given, to
 use Rattle.host.proofs.plan_total.Statement.{statement}
 use Rattle.host.proofs.plan_total.Tie as tie
 
-judge-slice-requires : tie.Need-judge-slice-requires
-judge-slice-requires c κs = search needs
-
-is-accepted-requires : tie.Need-is-accepted-requires
-is-accepted-requires c κs = search needs
-
-number-requires : tie.Need-number-requires
-number-requires c κs = search needs
-
 -- the verdict is the call's
 judged : (c : tie.After-judge-slice) → let a = c .before .before .args in refusalOf (c .judge-slice .result) ≡ totalRefusal (a .n) (a .m) (length (a .out .now))
 unfolding totalRefusal
@@ -38,16 +29,10 @@ returns c =
 passed : (c : tie.Else1) → let a = c .before .before .before .before .args in totalRefusal (a .n) (a .m) (length (a .out .now)) ≡ none
 passed c = let-through (judged (c .before .before)) (c .before .is-accepted .ensures) (c .if1 .left)
 
-total-requires : tie.Need-total-requires
-total-requires c κs = search needs
-
 put-number-requires : tie.Need-put-number-requires
 put-number-requires c κs =
     let a = c .before .before .before .before .before .before .args in
     omega (arith, total-length plan (a .n) (a .m) (a .out .now) (passed (c .before .before)))
-
-same-length : tie.Need-same-length
-same-length c = search needs
 
 returns-2 : tie.Need-returns-2
 returns-2 c =
@@ -65,11 +50,11 @@ pub plan-total-spec : {M : Type 1} → statement M
 plan-total-spec =
     tie.close
     (tie.spec
-    judge-slice-requires
-    is-accepted-requires
-    number-requires
+    (λ c κs. search needs)
+    (λ c κs. search needs)
+    (λ c κs. search needs)
     returns
-    total-requires
+    (λ c κs. search needs)
     put-number-requires
-    same-length
+    (λ c. search needs)
     returns-2)

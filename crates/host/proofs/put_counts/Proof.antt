@@ -4,21 +4,6 @@ use Rattle.host.proofs.Numbers.{three-numbers}
 use Rattle.host.proofs.put_counts.Statement.{statement}
 use Rattle.host.proofs.put_counts.Tie as tie
 
-put-number-requires : tie.Need-put-number-requires
-put-number-requires c κs = search needs
-
-put-number-requires-2 : tie.Need-put-number-requires-2
-put-number-requires-2 c κs = search needs
-
-mul-put-number : tie.Need-mul-put-number
-mul-put-number c = search needs
-
-put-number-requires-3 : tie.Need-put-number-requires-3
-put-number-requires-3 c κs = search needs
-
-same-length : tie.Need-same-length
-same-length c = search needs
-
 returns : tie.Need-returns
 returns c =
     let third = c .before .before .put-number3 in
@@ -32,9 +17,9 @@ pub put-counts-spec : {M : Type 1} → statement M
 put-counts-spec =
     tie.close
     (tie.spec
-    put-number-requires
-    put-number-requires-2
-    mul-put-number
-    put-number-requires-3
-    same-length
+    (λ c κs. search needs)
+    (λ c κs. search needs)
+    (λ c. search needs)
+    (λ c κs. search needs)
+    (λ c. search needs)
     returns)

@@ -12,12 +12,6 @@ use Rattle.judging.proofs.Range.{within-read-back}
 use Rattle.judging.proofs.bid_verdict.Statement.{statement}
 use Rattle.judging.proofs.bid_verdict.Tie as tie
 
-cast-is-within : tie.Need-cast-is-within
-cast-is-within c = search needs
-
-is-within-requires : tie.Need-is-within-requires
-is-within-requires c κs = search needs
-
 pool-test : (c : tie.After-is-within) → within (pos 1) (pos (c .before .args .m)) (c .before .args .pool) ≡ c .is-within .result
 pool-test c =
     let s = c .before in
@@ -29,12 +23,6 @@ returns c = simp (pool-test (c .before) ∙ not-true _ (c .if1 .taken))
 pool-right : (c : tie.Else1) → let s = c .before .before in within (pos 1) (pos (s .args .m)) (s .args .pool) ≡ true
 pool-right c = pool-test (c .before) ∙ not-false _ (c .if1 .left)
 
-sub-is-within : tie.Need-sub-is-within
-sub-is-within c = search needs
-
-is-within-requires-2 : tie.Need-is-within-requires-2
-is-within-requires-2 c κs = search needs
-
 price-test : (c : tie.After-is-within2) → within (negℤ (pos priceLimit)) (pos priceLimit) (c .before .before .before .args .price) ≡ c .is-within2 .result
 price-test c =
     let s = c .before .before .before in
@@ -45,12 +33,6 @@ returns-2 c = simp (pool-right (c .before .before), price-test (c .before) ∙ n
 
 price-right : (c : tie.Else2) → let s = c .before .before .before .before in within (negℤ (pos priceLimit)) (pos priceLimit) (s .args .price) ≡ true
 price-right c = price-test (c .before) ∙ not-false _ (c .if2 .left)
-
-sub-is-within-2 : tie.Need-sub-is-within-2
-sub-is-within-2 c = search needs
-
-is-within-requires-3 : tie.Need-is-within-requires-3
-is-within-requires-3 c κs = search needs
 
 quantity-test : (c : tie.After-is-within3) → within (negℤ (pos quantityLimit)) (pos quantityLimit) (c .before .before .before .before .before .args .quantity) ≡ c .is-within3 .result
 quantity-test c =
@@ -67,13 +49,13 @@ pub bid-verdict-spec : {M : Type 1} → statement M
 bid-verdict-spec =
     tie.close
     (tie.spec
-    cast-is-within
-    is-within-requires
+    (λ c. search needs)
+    (λ c κs. search needs)
     returns
-    sub-is-within
-    is-within-requires-2
+    (λ c. search needs)
+    (λ c κs. search needs)
     returns-2
-    sub-is-within-2
-    is-within-requires-3
+    (λ c. search needs)
+    (λ c κs. search needs)
     returns-3
     returns-4)

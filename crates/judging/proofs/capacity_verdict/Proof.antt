@@ -22,9 +22,6 @@ returns-2 c =
     let s = c .before .before in
     simp (c .before .if1 .taken, eq-no w32 (s .args .capacity) (pos 0) (c .if2 .left))
 
-is-within-requires : tie.Need-is-within-requires
-is-within-requires c κs = search needs
-
 range-test : (c : tie.After-is-within) → within (pos 0) (pos capacityLimit) (c .before .before .args .capacity) ≡ c .is-within .result
 range-test c =
     let s = c .before .before in
@@ -38,4 +35,4 @@ returns-4 c = simp (c .before .before .if1 .left, range-test (c .before) ∙ not
 
 pub capacity-verdict-spec : {M : Type 1} → statement M
 capacity-verdict-spec =
-    tie.close (tie.spec returns returns-2 is-within-requires returns-3 returns-4)
+    tie.close (tie.spec returns returns-2 (λ c κs. search needs) returns-3 returns-4)

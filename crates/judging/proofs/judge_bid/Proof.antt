@@ -10,12 +10,6 @@ use Rattle.laws.specs.Sizes.{pools-counted}
 use Rattle.judging.proofs.judge_bid.Statement.{statement}
 use Rattle.judging.proofs.judge_bid.Tie as tie
 
-judge-pools-requires : tie.Need-judge-pools-requires
-judge-pools-requires c κs = search needs
-
-is-accepted-requires : tie.Need-is-accepted-requires
-is-accepted-requires c κs = search needs
-
 returns : tie.Need-returns
 returns c =
     let a = c .before .before .before .args in
@@ -37,4 +31,4 @@ returns-2 c =
 pub judge-bid-spec : {M : Type 1} → statement M
 judge-bid-spec =
     tie.close
-    (tie.spec judge-pools-requires is-accepted-requires returns bid-verdict-requires returns-2)
+    (tie.spec (λ c κs. search needs) (λ c κs. search needs) returns bid-verdict-requires returns-2)

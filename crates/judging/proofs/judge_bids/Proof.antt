@@ -33,47 +33,23 @@ loop-holds : tie.Need-loop-holds Inv-loop μ-loop
 unfolding bidsRefusal
 loop-holds c = let a = c .args in (omega arith, search-begins (a .n) (bidAt (table (a .n) (a .m) (a .bids .now))))
 
-mul-at : tie.Need-mul-at Inv-loop μ-loop
-mul-at c = omega arith
-
 mul-pool : tie.Need-mul-pool Inv-loop μ-loop
 mul-pool c =
     let s = c .before .before in
     scaled-fits _ _ 4 (let h : bidNumbers * c .before .loop .i < length (s .args .bids .now) = omega arith in h) (s .good .1 .1 .0 .1)
-
-shared-slice-copy-out-pool : tie.Need-shared-slice-copy-out-pool Inv-loop μ-loop
-shared-slice-copy-out-pool c = omega arith
-
-add-price : tie.Need-add-price Inv-loop μ-loop
-add-price c = omega arith
 
 mul-price : tie.Need-mul-price Inv-loop μ-loop
 mul-price c =
     let s = c .before .before .before in
     scaled-fits _ _ 4 (let h : bidNumbers * c .before .before .loop .i + 1 < length (s .args .bids .now) = omega arith in h) (s .good .1 .1 .0 .1)
 
-shared-slice-copy-out-price : tie.Need-shared-slice-copy-out-price Inv-loop μ-loop
-shared-slice-copy-out-price c = omega arith
-
-add-quantity : tie.Need-add-quantity Inv-loop μ-loop
-add-quantity c = omega arith
-
 mul-quantity : tie.Need-mul-quantity Inv-loop μ-loop
 mul-quantity c =
     let s = c .before .before .before .before in
     scaled-fits _ _ 4 (let h : bidNumbers * c .before .before .before .loop .i + 2 < length (s .args .bids .now) = omega arith in h) (s .good .1 .1 .0 .1)
 
-shared-slice-copy-out-quantity : tie.Need-shared-slice-copy-out-quantity Inv-loop μ-loop
-shared-slice-copy-out-quantity c = omega arith
-
-add-bid-verdict : tie.Need-add-bid-verdict Inv-loop μ-loop
-add-bid-verdict c = omega arith
-
 bid-verdict-requires : tie.Need-bid-verdict-requires Inv-loop μ-loop
 bid-verdict-requires c κs = c .before .before .before .before .before .pre .0
-
-is-accepted-requires : tie.Need-is-accepted-requires Inv-loop μ-loop
-is-accepted-requires c κs = tt
 
 -- the verdict is that of bid i
 judged : (c : tie.After-bid-verdict Inv-loop μ-loop) →
@@ -85,7 +61,8 @@ judged c =
     let a = l .before .args in
     let i = l .loop .i in
     let B = table (a .n) (a .m) (a .bids .now) in
-    bid-read-back w32 (a .m) (pool B i) (price B i) (quantity B i) (i + 1) (sfits-of (c .before .before .before .pool .given)) (sfits-of (c .before .before .price .given)) (sfits-of (c .before .quantity .given)) (c .bid-verdict .ensures)
+    bid-read-back w32 (a .m) (pool B i) (price B i) (quantity B i) (i + 1) (sfits-of (c .before .before .before .pool .given))
+    (sfits-of (c .before .before .price .given)) (sfits-of (c .before .quantity .given)) (c .bid-verdict .ensures)
 
 returns : tie.Need-returns Inv-loop μ-loop
 returns c =
@@ -95,12 +72,6 @@ returns c =
     judged q
     ∙ sym (l .loop .inv .1 ∙ search-stops (a .n) (bidAt (table (a .n) (a .m) (a .bids .now))) (l .loop .i) (q .before .before .before .before .loop-test .taken) (turned-away (judged q) (c .before .is-accepted .ensures) (c .if1 .taken)))
 
-add-i : tie.Need-add-i Inv-loop μ-loop
-add-i c = omega arith
-
-loop-less : tie.Need-loop-less Inv-loop μ-loop
-loop-less c = omega arith
-
 loop-again : tie.Need-loop-again Inv-loop μ-loop
 loop-again c =
     let q = c .before .before in
@@ -108,7 +79,8 @@ loop-again c =
     let a = l .before .args in (
       omega arith,
       l .loop .inv .1
-          ∙ search-passes (a .n) (bidAt (table (a .n) (a .m) (a .bids .now))) (l .loop .i) (q .before .before .before .before .loop-test .taken) (let-through (judged q) (c .before .is-accepted .ensures) (c .if1 .left)),
+          ∙ search-passes (a .n) (bidAt (table (a .n) (a .m) (a .bids .now))) (l .loop .i) (q .before .before .before .before .loop-test .taken)
+          (let-through (judged q) (c .before .is-accepted .ensures) (c .if1 .left)),
     )
 
 returns-2 : tie.Need-returns-2 Inv-loop μ-loop
@@ -123,20 +95,20 @@ judge-bids-spec =
     Inv-loop
     μ-loop
     loop-holds
-    mul-at
+    (λ c. omega arith)
     mul-pool
-    shared-slice-copy-out-pool
-    add-price
+    (λ c. omega arith)
+    (λ c. omega arith)
     mul-price
-    shared-slice-copy-out-price
-    add-quantity
+    (λ c. omega arith)
+    (λ c. omega arith)
     mul-quantity
-    shared-slice-copy-out-quantity
-    add-bid-verdict
+    (λ c. omega arith)
+    (λ c. omega arith)
     bid-verdict-requires
-    is-accepted-requires
+    (λ c κs. tt)
     returns
-    add-i
-    loop-less
+    (λ c. omega arith)
+    (λ c. omega arith)
     loop-again
     returns-2)

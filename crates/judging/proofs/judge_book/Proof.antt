@@ -25,12 +25,6 @@ capacities-alone : (n m : ℕ) (bids capacities : List ℤ) → capacitiesRefusa
 unfolding capacitiesRefusal rowRefusal
 capacities-alone n m bids capacities = refl
 
-judge-counts-requires : tie.Need-judge-counts-requires
-judge-counts-requires c κs = search needs
-
-is-accepted-requires : tie.Need-is-accepted-requires
-is-accepted-requires c κs = search needs
-
 abbrev bookOf : tie.Start → Book
 bookOf s = book (s .args .n) (s .args .m) (s .args .bids .now) (s .args .capacities .now)
 
@@ -55,9 +49,6 @@ counts c = counted _ _ (counts-passed c)
 judge-lengths-requires : tie.Need-judge-lengths-requires
 judge-lengths-requires c κs = (counts c .bids, counts c .pools .most)
 
-is-accepted-requires-2 : tie.Need-is-accepted-requires-2
-is-accepted-requires-2 c κs = search needs
-
 returns-2 : tie.Need-returns-2
 unfolding sealRefusal
 returns-2 c =
@@ -71,7 +62,8 @@ lengths-passed c =
     let s = c .before .before .before .before .before .before in
     let-through {asked = lengthsOf s} (c .before .before .judge-lengths .ensures) (c .before .is-accepted2 .ensures) (c .if2 .left)
 
-lengths : (c : tie.Else2) → let s = c .before .before .before .before .before .before in Lengths (s .args .n) (s .args .m) (length (s .args .bids .now)) (length (s .args .capacities .now)) (s .args .cells)
+lengths : (c : tie.Else2) → let s = c .before .before .before .before .before .before in
+    Lengths (s .args .n) (s .args .m) (length (s .args .bids .now)) (length (s .args .capacities .now)) (s .args .cells)
 lengths c = measured _ _ _ _ _ (lengths-passed c)
 
 -- so what is left is what the whole answers
@@ -89,29 +81,27 @@ judge-bids-requires c κs = (counts (c .before .before .before) .pools .most, le
 judge-capacities-requires : tie.Need-judge-capacities-requires
 judge-capacities-requires c κs = (counts (c .before .before .before .before) .pools .most, lengths (c .before) .capacity-table)
 
-first-of-requires : tie.Need-first-of-requires
-first-of-requires c κs = search needs
-
 returns-3 : tie.Need-returns-3
 returns-3 c =
     let k = c .before in
     let j = k .before in
     let a = j .before .before .before .before .before .before .before .args in
     c .first-of .ensures
-    ∙ ap₂ first (j .judge-bids .ensures ∙ bids-alone (a .n) (a .m) (a .bids .now) (a .capacities .now)) (k .judge-capacities .ensures ∙ capacities-alone (a .n) (a .m) (a .bids .now) (a .capacities .now))
+    ∙ ap₂ first (j .judge-bids .ensures ∙ bids-alone (a .n) (a .m) (a .bids .now) (a .capacities .now))
+    (k .judge-capacities .ensures ∙ capacities-alone (a .n) (a .m) (a .bids .now) (a .capacities .now))
     ∙ left (j .before)
 
 pub judge-book-spec : {M : Type 1} → statement M
 judge-book-spec =
     tie.close
     (tie.spec
-    judge-counts-requires
-    is-accepted-requires
+    (λ c κs. search needs)
+    (λ c κs. search needs)
     returns
     judge-lengths-requires
-    is-accepted-requires-2
+    (λ c κs. search needs)
     returns-2
     judge-bids-requires
     judge-capacities-requires
-    first-of-requires
+    (λ c κs. search needs)
     returns-3)

@@ -72,12 +72,6 @@ shared-slice-copy-out-capacity c = inside c
 add-capacity-verdict : tie.Need-add-capacity-verdict Inv-loop μ-loop Inv-rows μ-rows
 add-capacity-verdict c = omega (arith, inside (c .before))
 
-capacity-verdict-requires : tie.Need-capacity-verdict-requires Inv-loop μ-loop Inv-rows μ-rows
-capacity-verdict-requires c κs = tt
-
-is-accepted-requires : tie.Need-is-accepted-requires Inv-loop μ-loop Inv-rows μ-rows
-is-accepted-requires c κs = tt
-
 -- the verdict is that of the entry of row a, column b
 judged : (c : tie.After-capacity-verdict Inv-loop μ-loop Inv-rows μ-rows) →
     let l = c .before .before .before in
@@ -92,12 +86,6 @@ judged c =
     c .capacity-verdict .ensures
     ∙ ap (λ (entry : ℤ). numbered (capacityFault diagonal entry) (r .rows .row + b + 1)) (back w32 (getD capacities (r .rows .row + b) (pos 0)) (c .before .capacity .given))
     ∙ ap (λ (row : ℕ). numbered (capacityFault diagonal (getD capacities (row + b) (pos 0))) (row + b + 1)) (r .rows .inv .1)
-
-add-b : tie.Need-add-b Inv-loop μ-loop Inv-rows μ-rows
-add-b c = omega arith
-
-loop-less : tie.Need-loop-less Inv-loop μ-loop Inv-rows μ-rows
-loop-less c = omega arith
 
 loop-again : tie.Need-loop-again Inv-loop μ-loop Inv-rows μ-rows
 loop-again c =
@@ -117,12 +105,6 @@ add-row : tie.Need-add-row Inv-loop μ-loop Inv-rows μ-rows
 add-row c =
     let r = c .before .before in
     omega (arith, row-inside (r .before .before .args .m) (r .before .rows .a) (r .rows-test .taken))
-
-add-a : tie.Need-add-a Inv-loop μ-loop Inv-rows μ-rows
-add-a c = omega arith
-
-rows-less : tie.Need-rows-less Inv-loop μ-loop Inv-rows μ-rows
-rows-less c = omega arith
 
 rows-again : tie.Need-rows-again Inv-loop μ-loop Inv-rows μ-rows
 rows-again c =
@@ -169,14 +151,14 @@ judge-capacities-spec =
     mul-capacity
     shared-slice-copy-out-capacity
     add-capacity-verdict
-    capacity-verdict-requires
-    is-accepted-requires
-    add-b
-    loop-less
+    (λ c κs. tt)
+    (λ c κs. tt)
+    (λ c. omega arith)
+    (λ c. omega arith)
     loop-again
     add-row
-    add-a
-    rows-less
+    (λ c. omega arith)
+    (λ c. omega arith)
     rows-again
     returns
     returns-2)

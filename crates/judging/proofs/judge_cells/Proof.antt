@@ -49,12 +49,6 @@ returns c =
     let e = cell-refused sheet (l .c) (c .if1 .taken) in
     sym (l .inv .1 ∙ search-stops (length sheet) (cellAt sheet) (l .c) (c .before .before .loop-test .taken) (ap isNone e) ∙ e)
 
-add-c : tie.Need-add-c Inv-loop μ-loop
-add-c c = omega arith
-
-loop-less : tie.Need-loop-less Inv-loop μ-loop
-loop-less c = omega arith
-
 loop-again : tie.Need-loop-again Inv-loop μ-loop
 loop-again c =
     let l = c .before .before .before .loop in
@@ -76,7 +70,7 @@ judge-cells-spec =
     mul-if1
     shared-slice-read-if1
     returns
-    add-c
-    loop-less
+    (λ c. omega arith)
+    (λ c. omega arith)
     loop-again
     returns-2)

@@ -8,11 +8,8 @@ use Rattle.judging.proofs.judge_counts.Tie as tie
 returns : tie.Need-returns
 returns c = simp (lt-ltb _ _ (c .if1 .taken))
 
-judge-pools-requires : tie.Need-judge-pools-requires
-judge-pools-requires c κs = search needs
-
 returns-2 : tie.Need-returns-2
 returns-2 c = c .judge-pools .ensures ∙ simp (le-ltb _ _ (c .before .if1 .left))
 
 pub judge-counts-spec : {M : Type 1} → statement M
-judge-counts-spec = tie.close (tie.spec returns judge-pools-requires returns-2)
+judge-counts-spec = tie.close (tie.spec returns (λ c κs. search needs) returns-2)

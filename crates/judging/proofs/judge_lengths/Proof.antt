@@ -7,9 +7,6 @@ use Rattle.definitions.specs.Limits.{poolLimit}
 use Rattle.judging.proofs.judge_lengths.Statement.{statement}
 use Rattle.judging.proofs.judge_lengths.Tie as tie
 
-mul-if1 : tie.Need-mul-if1
-mul-if1 c = search needs
-
 returns : tie.Need-returns
 returns c = simp (ne-eqb _ _ (c .if1 .taken))
 
@@ -26,4 +23,4 @@ returns-4 : tie.Need-returns-4
 returns-4 c = simp (eq-eqb _ _ (c .before .before .if1 .left), eq-eqb _ _ (c .before .if2 .left), eq-eqb _ _ (c .if3 .left))
 
 pub judge-lengths-spec : {M : Type 1} → statement M
-judge-lengths-spec = tie.close (tie.spec mul-if1 returns mul-if2 returns-2 returns-3 returns-4)
+judge-lengths-spec = tie.close (tie.spec (λ c. search needs) returns mul-if2 returns-2 returns-3 returns-4)

@@ -7,7 +7,7 @@ use lib.ListN.{length, length-set}
 use Rattle.definitions.specs.Settle.{decimalTo}
 use Rattle.laws.specs.Tests.{positive}
 use Rattle.listing.specs.Digits.{no-digits, one-digit, more-digits}
-use Rattle.listing.specs.Put.{nothing, byte, then, same-bytes, same-room, room-first, room-second}
+use Rattle.listing.specs.Put.{nothing, byte, then-put, same-bytes, same-room, room-first, room-second}
 use borrow.Fn.Kinds.{In}
 use borrow.Fn.PlainCycle.{Measures, is, falls, and}
 use Rattle.listing.proofs.put_digits.Reads as put-digits
@@ -28,10 +28,12 @@ put-digits-below t =
     and 1 put-digits-kinds.ps (falls 1 put-digits-kinds.ps _<_ μ-put-digits t) put-digits.Pre
 
 -- the number's digits, where it has one, and where it has more
-lone : (t : ℕ) (c : put-digits-lts.Then2 (put-digits-below t, put-digits.Post) (put-digits-at t) put-digits.Post) → let a = c .before .before .before .args in decimalTo (a .k) (a .v) ≡ (48 + a .v) ∷ []
+lone : (t : ℕ) (c : put-digits-lts.Then2 (put-digits-below t, put-digits.Post) (put-digits-at t) put-digits.Post)
+    → let a = c .before .before .before .args in decimalTo (a .k) (a .v) ≡ (48 + a .v) ∷ []
 lone t c = one-digit _ _ (c .before .if1 .left) (c .if2 .taken)
 
-several : (t : ℕ) (c : put-digits-lts.Else2 (put-digits-below t, put-digits.Post) (put-digits-at t) put-digits.Post) → let a = c .before .before .before .args in decimalTo (a .k) (a .v) ≡ decimalTo (a .k - 1) (a .v / 10) ++ ((48 + a .v % 10) ∷ [])
+several : (t : ℕ) (c : put-digits-lts.Else2 (put-digits-below t, put-digits.Post) (put-digits-at t) put-digits.Post)
+    → let a = c .before .before .before .args in decimalTo (a .k) (a .v) ≡ decimalTo (a .k - 1) (a .v / 10) ++ ((48 + a .v % 10) ∷ [])
 several t c = more-digits _ _ (c .before .if1 .left) (c .if2 .left)
 
 put-digits-returns :
@@ -113,7 +115,9 @@ put-digits-add-out-2 : (t : ℕ) → put-digits-lts.Need-add-out-2 (
 put-digits-add-out-2 t c = omega arith
 
 -- room for the last digit
-last-room : (t : ℕ) (c : put-digits-lts.After-put-digits (put-digits-below t, put-digits.Post) (put-digits-at t) put-digits.Post) → let a = c .before .before .before .before .before .args in c .put-digits .result + length ((48 + a .v % 10) ∷ []) ≤ length (c .put-digits .last .0)
+last-room : (t : ℕ) (c : put-digits-lts.After-put-digits (put-digits-below t, put-digits.Post) (put-digits-at t) put-digits.Post)
+    → let a = c .before .before .before .before .before .args in
+    c .put-digits .result + length ((48 + a .v % 10) ∷ []) ≤ length (c .put-digits .last .0)
 last-room t c =
     let s = c .before .before .before .before .before in
     room-second ((48 + s .args .v % 10) ∷ []) (c .put-digits .ensures) (same-room _ _ (several t (c .before .before)) (s .pre .1))
@@ -143,7 +147,7 @@ put-digits-returns-3 : (t : ℕ) → put-digits-lts.Need-returns-3 (
 put-digits-returns-3 t c =
     let a = c .before .before .before .before .before .before .before .args in
     let p = c .before .before .put-digits in
-    same-bytes (sym (several t (c .before .before .before .before))) (then (p .ensures) (byte (p .last .0) (p .result) (48 + a .v % 10)))
+    same-bytes (sym (several t (c .before .before .before .before))) (then-put (p .ensures) (byte (p .last .0) (p .result) (48 + a .v % 10)))
 
 pub +put-digits-spec : {M : Type 1} → statement M
 +put-digits-spec = close μ-put-digits λ t. put-digits-lts.spec (

@@ -15,12 +15,6 @@ use Rattle.listing.specs.Text.{listable}
 use Rattle.listing.proofs.can_list.Statement.{statement}
 use Rattle.listing.proofs.can_list.Tie as tie
 
-judge-counts-requires : tie.Need-judge-counts-requires
-judge-counts-requires c κs = search needs
-
-is-accepted-requires : tie.Need-is-accepted-requires
-is-accepted-requires c κs = search needs
-
 returns : tie.Need-returns
 unfolding listable
 returns c =
@@ -62,8 +56,8 @@ pub can-list-spec : {M : Type 1} → statement M
 can-list-spec =
     tie.close
     (tie.spec
-    judge-counts-requires
-    is-accepted-requires
+    (λ c κs. search needs)
+    (λ c κs. search needs)
     returns
     mul-if2
     add-if2

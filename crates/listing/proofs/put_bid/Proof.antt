@@ -6,7 +6,7 @@ use mir.Val.{toZ, ofZ}
 use Rattle.definitions.specs.Settle.{decimal, space, bidWord, bidLine}
 use Rattle.listing.specs.Lines.{lastField}
 use Rattle.listing.specs.Negative.{widened, widened-fits}
-use Rattle.listing.specs.Put.{then, same-bytes, same-room, room-first, room-second}
+use Rattle.listing.specs.Put.{then-put, same-bytes, same-room, room-first, room-second}
 use borrow.Author.Needs.{needs}
 use Rattle.listing.proofs.put_bid.Statement.{statement}
 use Rattle.listing.proofs.put_bid.Tie as tie
@@ -14,9 +14,6 @@ use Rattle.listing.proofs.put_bid.Tie as tie
 -- the last field, of the number read back from its bits
 last : (c : tie.Start) → lastField (toZ w64 (ofZ w64 (toZ w32 (ofZ w32 (c .args .accepted))))) ≡ lastField (c .args .accepted)
 last c = ap lastField (widened (c .fits .accepted))
-
-slice-aggregate-put-field : tie.Need-slice-aggregate-put-field
-slice-aggregate-put-field c = search needs
 
 put-field-requires : tie.Need-put-field-requires
 unfolding bidLine
@@ -33,22 +30,19 @@ put-last-requires c κs =
     let s = c .before .before .before .before .before .before .before in
     same-room _ _ (sym (last s)) (room-second (lastField (s .args .accepted)) (c .before .before .before .put-field .ensures) (s .pre))
 
-same-length : tie.Need-same-length
-same-length c = search needs
-
 returns : tie.Need-returns
 unfolding bidLine
 returns c =
-    then (c .before .before .before .before .before .before .put-field .ensures)
+    then-put (c .before .before .before .before .before .before .put-field .ensures)
     (same-bytes (last (c .before .before .before .before .before .before .before .before .before .before)) (c .before .before .put-last .ensures))
 
 pub put-bid-spec : {M : Type 1} → statement M
 put-bid-spec =
     tie.close
     (tie.spec
-    slice-aggregate-put-field
+    (λ c. search needs)
     put-field-requires
     cast-put-last
     put-last-requires
-    same-length
+    (λ c. search needs)
     returns)

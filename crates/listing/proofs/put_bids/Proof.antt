@@ -29,12 +29,6 @@ mul-accepted c =
     let s = c .before .before .before in
     scaled-fits _ _ 4 (let h : c .before .loop .i < length (s .args .results .now) = omega arith in h) (s .good .1 .1 .1 .0 .1)
 
-shared-slice-copy-out-accepted : tie.Need-shared-slice-copy-out-accepted Inv-loop μ-loop
-shared-slice-copy-out-accepted c = omega arith
-
-add-put-bid : tie.Need-add-put-bid Inv-loop μ-loop
-add-put-bid c = omega arith
-
 -- the line, of the number read back from its bits
 line : (c : tie.After-accepted Inv-loop μ-loop) →
     let i = c .before .before .loop .i in
@@ -50,12 +44,6 @@ put-bid-requires c κs =
     let s = c .before .before .before .before .before in
     let l = c .before .before .before .loop in
     same-room _ _ (sym (line (c .before))) (line-room (l .i) (s .args .n) (bidAt (s .args .results .now)) (s .pre .1) (l .inv .1) (c .before .before .loop-test .taken))
-
-add-i : tie.Need-add-i Inv-loop μ-loop
-add-i c = omega arith
-
-loop-less : tie.Need-loop-less Inv-loop μ-loop
-loop-less c = omega arith
 
 loop-again : tie.Need-loop-again Inv-loop μ-loop
 loop-again c =
@@ -81,11 +69,11 @@ put-bids-spec =
     μ-loop
     loop-holds
     mul-accepted
-    shared-slice-copy-out-accepted
-    add-put-bid
+    (λ c. omega arith)
+    (λ c. omega arith)
     put-bid-requires
-    add-i
-    loop-less
+    (λ c. omega arith)
+    (λ c. omega arith)
     loop-again
     same-length
     returns)

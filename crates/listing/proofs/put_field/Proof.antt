@@ -1,7 +1,7 @@
 -- `put_field` meets its contract: a word, and behind it a number.
 use Rattle.definitions.specs.Settle.{decimal}
 use borrow.Author.Needs.{needs}
-use Rattle.listing.specs.Put.{then, room-first, room-second}
+use Rattle.listing.specs.Put.{then-put, room-first, room-second}
 use Rattle.listing.proofs.put_field.Statement.{statement}
 use Rattle.listing.proofs.put_field.Tie as tie
 
@@ -16,12 +16,9 @@ put-digits-requires c κs =
     let s = c .before .before .before .before .before .before .before in
     room-second (decimal (s .args .v)) (c .before .before .before .put-word .ensures) (s .pre)
 
-same-length : tie.Need-same-length
-same-length c = search needs
-
 returns : tie.Need-returns
 unfolding decimal
-returns c = then (c .before .before .before .before .before .before .put-word .ensures) (c .before .before .put-digits .ensures)
+returns c = then-put (c .before .before .before .before .before .before .put-word .ensures) (c .before .before .put-digits .ensures)
 
 pub put-field-spec : {M : Type 1} → statement M
-put-field-spec = tie.close (tie.spec put-word-requires put-digits-requires same-length returns)
+put-field-spec = tie.close (tie.spec put-word-requires put-digits-requires (λ c. search needs) returns)

@@ -10,7 +10,7 @@ use Rattle.definitions.specs.Settle.{decimal, space, lineWord, flowLine}
 use Rattle.laws.specs.SignedTests.{right}
 use Rattle.listing.specs.Lines.{lastField}
 use Rattle.listing.specs.Negative.{widened, widened-fits}
-use Rattle.listing.specs.Put.{nothing, then, same-bytes, same-room, room-first, room-second}
+use Rattle.listing.specs.Put.{nothing, then-put, same-bytes, same-room, room-first, room-second}
 use borrow.Author.Needs.{needs}
 use Rattle.listing.proofs.put_flow.Statement.{statement}
 use Rattle.listing.proofs.put_flow.Tie as tie
@@ -31,19 +31,14 @@ no-line c = simp (right (pos 0) (c .before .before .fits .flow) (c .if1 .left))
 room : (c : tie.Then1) → let a = c .before .before .args in a .at + length ((lineWord ++ (space ++ decimal (a .from))) ++ ((space ++ decimal (a .to)) ++ lastField (a .flow))) ≤ length (a .out .now)
 room c = same-room _ _ (line c) (c .before .before .pre)
 
-slice-aggregate-put-field : tie.Need-slice-aggregate-put-field
-slice-aggregate-put-field c = search needs
-
 put-field-requires : tie.Need-put-field-requires
 put-field-requires c κs =
     let a = c .before .before .before .before .args in
     room-first (lineWord ++ (space ++ decimal (a .from))) ((space ++ decimal (a .to)) ++ lastField (a .flow)) _ _ (room (c .before .before))
 
-slice-aggregate-put-field-2 : tie.Need-slice-aggregate-put-field-2
-slice-aggregate-put-field-2 c = search needs
-
 -- room behind the first pool
-second-room : (c : tie.After-put-field) → let a = c .before .before .before .before .before .args in c .put-field .result + length ((space ++ decimal (a .to)) ++ lastField (a .flow)) ≤ length (c .put-field .last .0)
+second-room : (c : tie.After-put-field) → let a = c .before .before .before .before .before .args in
+    c .put-field .result + length ((space ++ decimal (a .to)) ++ lastField (a .flow)) ≤ length (c .put-field .last .0)
 second-room c =
     let a = c .before .before .before .before .before .args in
     room-second ((space ++ decimal (a .to)) ++ lastField (a .flow)) (c .put-field .ensures) (room (c .before .before .before))
@@ -59,16 +54,14 @@ cast-put-last c = widened-fits (c .before .before .before .before .before .befor
 put-last-requires : tie.Need-put-last-requires
 put-last-requires c κs =
     let s = c .before .before .before .before .before .before .before .before .before .before .before .before .before in
-    same-room _ _ (sym (last s)) (room-second (lastField (s .args .flow)) (c .before .before .before .put-field2 .ensures) (second-room (c .before .before .before .before .before .before .before .before)))
-
-same-length : tie.Need-same-length
-same-length c = search needs
+    same-room _ _ (sym (last s))
+    (room-second (lastField (s .args .flow)) (c .before .before .before .put-field2 .ensures) (second-room (c .before .before .before .before .before .before .before .before)))
 
 returns : tie.Need-returns
 returns c =
     same-bytes (sym (line (c .before .before .before .before .before .before .before .before .before .before .before .before .before .before)))
-    (then (c .before .before .before .before .before .before .before .before .before .before .before .put-field .ensures)
-    (then (c .before .before .before .before .before .before .put-field2 .ensures)
+    (then-put (c .before .before .before .before .before .before .before .before .before .before .before .put-field .ensures)
+    (then-put (c .before .before .before .before .before .before .put-field2 .ensures)
     (same-bytes (last (c .before .before .before .before .before .before .before .before .before .before .before .before .before .before .before .before)) (c .before .before .put-last .ensures))))
 
 returns-2 : tie.Need-returns-2
@@ -78,12 +71,12 @@ pub put-flow-spec : {M : Type 1} → statement M
 put-flow-spec =
     tie.close
     (tie.spec
-    slice-aggregate-put-field
+    (λ c. search needs)
     put-field-requires
-    slice-aggregate-put-field-2
+    (λ c. search needs)
     put-field-requires-2
     cast-put-last
     put-last-requires
-    same-length
+    (λ c. search needs)
     returns
     returns-2)

@@ -24,12 +24,6 @@ put-row-requires c κs =
     let l = c .before .before .loop in
     (c .before .loop-test .taken, s .pre .0, line-room (l .a) (s .args .m) (λ a. rowLines (s .args .n) (s .args .m) a (s .args .results .now)) (s .pre .1) (l .inv .1) (c .before .loop-test .taken))
 
-add-a : tie.Need-add-a Inv-loop μ-loop
-add-a c = omega arith
-
-loop-less : tie.Need-loop-less Inv-loop μ-loop
-loop-less c = omega arith
-
 loop-again : tie.Need-loop-again Inv-loop μ-loop
 loop-again c =
     let l = c .before .before .before .before .before .loop in
@@ -54,8 +48,8 @@ put-flows-spec =
     μ-loop
     loop-holds
     put-row-requires
-    add-a
-    loop-less
+    (λ c. omega arith)
+    (λ c. omega arith)
     loop-again
     same-length
     returns)

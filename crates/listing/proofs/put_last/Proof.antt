@@ -8,15 +8,9 @@ use mir.Syntax.{w64}
 use mir.Val.{toZ, ofZ}
 use mir.Facts.{toZ-ofZ}
 use Rattle.definitions.specs.Settle.{decimalZ, newline}
-use Rattle.listing.specs.Put.{Put, then, same-bytes, same-room, room-first, room-second}
+use Rattle.listing.specs.Put.{Put, then-put, same-bytes, same-room, room-first, room-second}
 use Rattle.listing.proofs.put_last.Statement.{statement}
 use Rattle.listing.proofs.put_last.Tie as tie
-
-slice-aggregate-put-word : tie.Need-slice-aggregate-put-word
-slice-aggregate-put-word c = search needs
-
-put-word-requires : tie.Need-put-word-requires
-put-word-requires c κs = search needs
 
 -- the number's digits, read back from its bits
 number : (c : tie.Start) → decimalZ (toZ w64 (ofZ w64 (c .args .v))) ≡ decimalZ (c .args .v)
@@ -36,28 +30,22 @@ put-signed-requires c κs =
 signed : (c : tie.After-put-signed) → Put (c .before .before .before .before .put-word .last .0) (c .before .before .before .before .put-word .result) (decimalZ (c .before .before .before .before .before .before .before .before .args .v)) (c .put-signed .last .0) (c .put-signed .result)
 signed c = same-bytes (number (c .before .before .before .before .before .before .before .before)) (c .put-signed .ensures)
 
-slice-aggregate-put-word-2 : tie.Need-slice-aggregate-put-word-2
-slice-aggregate-put-word-2 c = search needs
-
 put-word-requires-2 : tie.Need-put-word-requires-2
 put-word-requires-2 c κs = room-second newline (signed (c .before .before .before .before)) (number-room (c .before .before .before .before .before .before .before .before))
 
-same-length : tie.Need-same-length
-same-length c = search needs
-
 returns : tie.Need-returns
 returns c =
-    then (c .before .before .before .before .before .before .before .before .before .before .before .put-word .ensures)
-    (then (signed (c .before .before .before .before .before .before .before)) (c .before .before .put-word2 .ensures))
+    then-put (c .before .before .before .before .before .before .before .before .before .before .before .put-word .ensures)
+    (then-put (signed (c .before .before .before .before .before .before .before)) (c .before .before .put-word2 .ensures))
 
 pub put-last-spec : {M : Type 1} → statement M
 put-last-spec =
     tie.close
     (tie.spec
-    slice-aggregate-put-word
-    put-word-requires
+    (λ c. search needs)
+    (λ c κs. search needs)
     put-signed-requires
-    slice-aggregate-put-word-2
+    (λ c. search needs)
     put-word-requires-2
-    same-length
+    (λ c. search needs)
     returns)

@@ -1,14 +1,14 @@
 -- `put_listing` meets its contract: the lines of bids, flows and prices and the welfare's, one behind the other.
-use Prim.Native.Nat.{_+_, _≤_}
+use Prim.Native.Nat.{ℕ, _+_, _≤_}
 use mathlib.Core.Path.{_≡_, sym, ap}
-use mathlib.Core.List.{_++_}
+use mathlib.Core.List.{List, _++_}
 use native.Mathlib.Omega.{arith}
 use lib.ListN.{length}
 use mir.Syntax.{w64}
 use mir.Val.{toZ, ofZ}
 use mir.Facts.{toZ-ofZ}
 use Rattle.definitions.specs.Settle.{bidLines, flowLines, priceLines, welfareLine, listing}
-use Rattle.listing.specs.Put.{then, same-bytes, same-room, room-start, room-first, room-second}
+use Rattle.listing.specs.Put.{then-put, same-bytes, same-room, room-start, room-first, room-second}
 use borrow.Author.Needs.{needs}
 use Rattle.listing.proofs.put_listing.Statement.{statement}
 use Rattle.listing.proofs.put_listing.Tie as tie
@@ -17,50 +17,59 @@ use Rattle.listing.proofs.put_listing.Tie as tie
 last : (c : tie.Start) → welfareLine (toZ w64 (ofZ w64 (c .args .welfare))) ≡ welfareLine (c .args .welfare)
 last c = ap welfareLine (toZ-ofZ (c .fits .welfare))
 
+-- the listing from its flows on, and from its prices on
+abbrev fromPrices : tie.Start → List ℕ
+fromPrices c = priceLines (c .args .n) (c .args .m) (c .args .results .now) ++ welfareLine (c .args .welfare)
+
+abbrev fromFlows : tie.Start → List ℕ
+fromFlows c = flowLines (c .args .n) (c .args .m) (c .args .results .now) ++ fromPrices c
+
 -- room for all, and behind each part for those after it
-room : (c : tie.Start) → let a = c .args in 0 + length (bidLines (a .n) (a .results .now) ++ (flowLines (a .n) (a .m) (a .results .now) ++ (priceLines (a .n) (a .m) (a .results .now) ++ welfareLine (a .welfare)))) ≤ length (a .out .now)
+room : (c : tie.Start) → 0 + length (bidLines (c .args .n) (c .args .results .now) ++ fromFlows c) ≤ length (c .args .out .now)
 unfolding listing
 room c = let a = c .args in room-start (listing (a .n) (a .m) (a .results .now) (a .welfare)) _ (c .pre .1)
 
-room-2 : (c : tie.After-put-bids) → let a = c .before .before .before .args in c .put-bids .result + length (flowLines (a .n) (a .m) (a .results .now) ++ (priceLines (a .n) (a .m) (a .results .now) ++ welfareLine (a .welfare))) ≤ length (c .put-bids .last .0)
-room-2 c = let a = c .before .before .before .args in room-second (flowLines (a .n) (a .m) (a .results .now) ++ (priceLines (a .n) (a .m) (a .results .now) ++ welfareLine (a .welfare))) (c .put-bids .ensures) (room (c .before .before .before))
+room-2 : (c : tie.After-put-bids) → c .put-bids .result + length (fromFlows (c .before .before .before)) ≤ length (c .put-bids .last .0)
+room-2 c = let s = c .before .before .before in room-second (fromFlows s) (c .put-bids .ensures) (room s)
 
-room-3 : (c : tie.After-put-flows) → let a = c .before .before .before .before .before .before .before .args in c .put-flows .result + length (priceLines (a .n) (a .m) (a .results .now) ++ welfareLine (a .welfare)) ≤ length (c .put-flows .last .0)
-room-3 c = let a = c .before .before .before .before .before .before .before .args in room-second (priceLines (a .n) (a .m) (a .results .now) ++ welfareLine (a .welfare)) (c .put-flows .ensures) (room-2 (c .before .before .before .before))
+room-3 : (c : tie.After-put-flows)
+    → c .put-flows .result + length (fromPrices (c .before .before .before .before .before .before .before)) ≤ length (c .put-flows .last .0)
+room-3 c =
+    let b = c .before .before .before .before in
+    room-second (fromPrices (b .before .before .before)) (c .put-flows .ensures) (room-2 b)
 
 put-bids-requires : tie.Need-put-bids-requires
 put-bids-requires c κs =
     let s = c .before .before in
-    let a = s .args in
-    (omega (arith, s .pre .0), room-first (bidLines (a .n) (a .results .now)) (flowLines (a .n) (a .m) (a .results .now) ++ (priceLines (a .n) (a .m) (a .results .now) ++ welfareLine (a .welfare))) _ _ (room s))
+    (omega (arith, s .pre .0), room-first (bidLines (s .args .n) (s .args .results .now)) (fromFlows s) _ _ (room s))
 
 put-flows-requires : tie.Need-put-flows-requires
 put-flows-requires c κs =
-    let s = c .before .before .before .before .before .before in
-    let a = s .args in
-    (omega (arith, s .pre .0), room-first (flowLines (a .n) (a .m) (a .results .now)) (priceLines (a .n) (a .m) (a .results .now) ++ welfareLine (a .welfare)) _ _ (room-2 (c .before .before .before)))
+    let b = c .before .before .before in
+    let s = b .before .before .before in
+    (omega (arith, s .pre .0), room-first (flowLines (s .args .n) (s .args .m) (s .args .results .now)) (fromPrices s) _ _ (room-2 b))
 
 put-prices-requires : tie.Need-put-prices-requires
 put-prices-requires c κs =
-    let s = c .before .before .before .before .before .before .before .before .before .before in
-    let a = s .args in
-    (omega (arith, s .pre .0), room-first (priceLines (a .n) (a .m) (a .results .now)) (welfareLine (a .welfare)) _ _ (room-3 (c .before .before .before)))
+    let f = c .before .before .before in
+    let s = f .before .before .before .before .before .before .before in
+    (omega (arith, s .pre .0), room-first (priceLines (s .args .n) (s .args .m) (s .args .results .now)) (welfareLine (s .args .welfare)) _ _ (room-3 f))
 
 put-welfare-requires : tie.Need-put-welfare-requires
 put-welfare-requires c κs =
-    let s = c .before .before .before .before .before .before .before .before .before .before .before .before .before .before in
-    same-room _ _ (sym (last s)) (room-second (welfareLine (s .args .welfare)) (c .before .before .before .put-prices .ensures) (room-3 (c .before .before .before .before .before .before .before)))
-
-same-length : tie.Need-same-length
-same-length c = search needs
+    let f = c .before .before .before .before .before .before .before in
+    let s = f .before .before .before .before .before .before .before in
+    same-room _ _ (sym (last s)) (room-second (welfareLine (s .args .welfare)) (c .before .before .before .put-prices .ensures) (room-3 f))
 
 returns : tie.Need-returns
 unfolding listing
 returns c =
-    then (c .before .before .before .before .before .before .before .before .before .before .before .before .before .before .put-bids .ensures)
-    (then (c .before .before .before .before .before .before .before .before .before .before .put-flows .ensures)
-    (then (c .before .before .before .before .before .before .put-prices .ensures)
-    (same-bytes (last (c .before .before .before .before .before .before .before .before .before .before .before .before .before .before .before .before .before)) (c .before .before .put-welfare .ensures))))
+    let prices = c .before .before .before .before .before .before in
+    let flows = prices .before .before .before .before in
+    let bids = flows .before .before .before .before in
+    then-put (bids .put-bids .ensures)
+    (then-put (flows .put-flows .ensures)
+    (then-put (prices .put-prices .ensures) (same-bytes (last (bids .before .before .before)) (c .before .before .put-welfare .ensures))))
 
 pub put-listing-spec : {M : Type 1} → statement M
 put-listing-spec =
@@ -70,5 +79,5 @@ put-listing-spec =
     put-flows-requires
     put-prices-requires
     put-welfare-requires
-    same-length
+    (λ c. search needs)
     returns)

@@ -10,13 +10,10 @@ use Rattle.definitions.specs.Settle.{decimal, space, newline, priceWord, noneWo
 use Rattle.laws.specs.SignedTests.{right}
 use Rattle.listing.specs.Lines.{lastField}
 use Rattle.listing.specs.Negative.{widened, widened-fits}
-use Rattle.listing.specs.Put.{then, same-bytes, same-room, room-first, room-second}
+use Rattle.listing.specs.Put.{then-put, same-bytes, same-room, room-first, room-second}
 use borrow.Author.Needs.{needs}
 use Rattle.listing.proofs.put_price.Statement.{statement}
 use Rattle.listing.proofs.put_price.Tie as tie
-
-slice-aggregate-put-field : tie.Need-slice-aggregate-put-field
-slice-aggregate-put-field c = search needs
 
 put-field-requires : tie.Need-put-field-requires
 unfolding priceLine
@@ -25,14 +22,16 @@ put-field-requires c κs =
     room-first (priceWord ++ (space ++ decimal (s .args .pool))) (space ++ (priceText (s .args .price) (s .args .presence) ++ newline)) _ _ (s .pre)
 
 -- room behind the pool
-second-room : (c : tie.After-put-field) → let a = c .before .before .before .before .args in c .put-field .result + length (space ++ (priceText (a .price) (a .presence) ++ newline)) ≤ length (c .put-field .last .0)
+second-room : (c : tie.After-put-field) → let a = c .before .before .before .before .args in
+    c .put-field .result + length (space ++ (priceText (a .price) (a .presence) ++ newline)) ≤ length (c .put-field .last .0)
 unfolding priceLine
 second-room c =
     let s = c .before .before .before .before in
     room-second (space ++ (priceText (s .args .price) (s .args .presence) ++ newline)) (c .put-field .ensures) (s .pre)
 
 -- what stands there, by the test on the presence
-present : (c : tie.Then1) → let a = c .before .before .before .before .before .before .before .args in lastField (toZ w64 (ofZ w64 (toZ w32 (ofZ w32 (a .price))))) ≡ space ++ (priceText (a .price) (a .presence) ++ newline)
+present : (c : tie.Then1) → let a = c .before .before .before .before .before .before .before .args in
+    lastField (toZ w64 (ofZ w64 (toZ w32 (ofZ w32 (a .price))))) ≡ space ++ (priceText (a .price) (a .presence) ++ newline)
 present c =
     let s = c .before .before .before .before .before .before .before in
     ap lastField (widened (s .fits .price)) ∙ simp (right (pos 0) (s .fits .presence) (c .if1 .taken))
@@ -46,41 +45,32 @@ cast-put-last c = widened-fits (c .before .before .before .before .before .befor
 put-last-requires : tie.Need-put-last-requires
 put-last-requires c κs = same-room _ _ (sym (present (c .before))) (second-room (c .before .before .before .before))
 
-same-length : tie.Need-same-length
-same-length c = search needs
-
 returns : tie.Need-returns
 unfolding priceLine
 returns c =
-    then (c .before .before .before .before .before .before .before .put-field .ensures)
+    then-put (c .before .before .before .before .before .before .before .put-field .ensures)
     (same-bytes (present (c .before .before .before .before)) (c .before .before .put-last .ensures))
-
-slice-aggregate-put-word : tie.Need-slice-aggregate-put-word
-slice-aggregate-put-word c = search needs
 
 put-word-requires : tie.Need-put-word-requires
 put-word-requires c κs = same-room _ _ (sym (missing (c .before .before))) (second-room (c .before .before .before .before .before))
 
-same-length-2 : tie.Need-same-length-2
-same-length-2 c = search needs
-
 returns-2 : tie.Need-returns-2
 unfolding priceLine
 returns-2 c =
-    then (c .before .before .before .before .before .before .before .before .put-field .ensures)
+    then-put (c .before .before .before .before .before .before .before .before .put-field .ensures)
     (same-bytes (missing (c .before .before .before .before .before)) (c .before .before .put-word .ensures))
 
 pub put-price-spec : {M : Type 1} → statement M
 put-price-spec =
     tie.close
     (tie.spec
-    slice-aggregate-put-field
+    (λ c. search needs)
     put-field-requires
     cast-put-last
     put-last-requires
-    same-length
+    (λ c. search needs)
     returns
-    slice-aggregate-put-word
+    (λ c. search needs)
     put-word-requires
-    same-length-2
+    (λ c. search needs)
     returns-2)

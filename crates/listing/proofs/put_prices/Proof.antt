@@ -57,9 +57,6 @@ mul-presence c = scaled-fits _ _ 4 (inside (c .before)) (c .before .before .befo
 shared-slice-copy-out-presence : tie.Need-shared-slice-copy-out-presence Inv-loop μ-loop
 shared-slice-copy-out-presence c = inside (c .before)
 
-add-put-price : tie.Need-add-put-price Inv-loop μ-loop
-add-put-price c = omega arith
-
 -- the line, of the numbers read back from their bits
 line : (c : tie.After-presence Inv-loop μ-loop) →
     let s = c .before .before .before .before .before .args in
@@ -77,13 +74,8 @@ unfolding priceLines
 put-price-requires c κs =
     let s = c .before .before .before .before .before .before in
     let l = c .before .before .before .before .loop in
-    same-room _ _ (sym (line (c .before))) (line-room (l .p) (s .args .m) (priceAt (s .args .n) (s .args .m) (s .args .results .now)) (s .pre .1) (l .inv .1) (c .before .before .before .loop-test .taken))
-
-add-p : tie.Need-add-p Inv-loop μ-loop
-add-p c = omega arith
-
-loop-less : tie.Need-loop-less Inv-loop μ-loop
-loop-less c = omega arith
+    same-room _ _ (sym (line (c .before)))
+    (line-room (l .p) (s .args .m) (priceAt (s .args .n) (s .args .m) (s .args .results .now)) (s .pre .1) (l .inv .1) (c .before .before .before .loop-test .taken))
 
 loop-again : tie.Need-loop-again Inv-loop μ-loop
 loop-again c =
@@ -117,10 +109,10 @@ put-prices-spec =
     add-presence
     mul-presence
     shared-slice-copy-out-presence
-    add-put-price
+    (λ c. omega arith)
     put-price-requires
-    add-p
-    loop-less
+    (λ c. omega arith)
+    (λ c. omega arith)
     loop-again
     same-length
     returns)

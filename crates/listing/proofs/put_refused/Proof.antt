@@ -3,7 +3,7 @@ use Prim.Native.Nat.{_+_, _≤_}
 use mathlib.Core.List.{_++_}
 use lib.ListN.{length}
 use Rattle.definitions.specs.Settle.{decimal, space, newline, refusedWord, refusedText}
-use Rattle.listing.specs.Put.{then, room-start, room-first, room-second}
+use Rattle.listing.specs.Put.{then-put, room-start, room-first, room-second}
 use borrow.Author.Needs.{needs}
 use Rattle.listing.proofs.put_refused.Statement.{statement}
 use Rattle.listing.proofs.put_refused.Tie as tie
@@ -11,9 +11,6 @@ use Rattle.listing.proofs.put_refused.Tie as tie
 room : (c : tie.Start) → 0 + length ((refusedWord ++ (space ++ decimal (c .args .number))) ++ ((space ++ decimal (c .args .place)) ++ newline)) ≤ length (c .args .out .now)
 unfolding refusedText
 room c = room-start (refusedText (c .args .number) (c .args .place)) _ (c .pre)
-
-slice-aggregate-put-field : tie.Need-slice-aggregate-put-field
-slice-aggregate-put-field c = search needs
 
 put-field-requires : tie.Need-put-field-requires
 put-field-requires c κs =
@@ -26,37 +23,28 @@ second-room c =
     let s = c .before .before .before .before in
     room-second ((space ++ decimal (s .args .place)) ++ newline) (c .put-field .ensures) (room s)
 
-slice-aggregate-put-field-2 : tie.Need-slice-aggregate-put-field-2
-slice-aggregate-put-field-2 c = search needs
-
 put-field-requires-2 : tie.Need-put-field-requires-2
 put-field-requires-2 c κs =
     room-first (space ++ decimal (c .before .before .before .before .before .before .before .before .args .place)) newline _ _ (second-room (c .before .before .before .before))
 
-slice-aggregate-put-word : tie.Need-slice-aggregate-put-word
-slice-aggregate-put-word c = search needs
-
 put-word-requires : tie.Need-put-word-requires
 put-word-requires c κs = room-second newline (c .before .before .before .before .put-field2 .ensures) (second-room (c .before .before .before .before .before .before .before .before .before))
-
-same-length : tie.Need-same-length
-same-length c = search needs
 
 returns : tie.Need-returns
 unfolding refusedText
 returns c =
-    then (c .before .before .before .before .before .before .before .before .before .before .before .before .put-field .ensures)
-    (then (c .before .before .before .before .before .before .before .put-field2 .ensures) (c .before .before .put-word .ensures))
+    then-put (c .before .before .before .before .before .before .before .before .before .before .before .before .put-field .ensures)
+    (then-put (c .before .before .before .before .before .before .before .put-field2 .ensures) (c .before .before .put-word .ensures))
 
 pub put-refused-spec : {M : Type 1} → statement M
 put-refused-spec =
     tie.close
     (tie.spec
-    slice-aggregate-put-field
+    (λ c. search needs)
     put-field-requires
-    slice-aggregate-put-field-2
+    (λ c. search needs)
     put-field-requires-2
-    slice-aggregate-put-word
+    (λ c. search needs)
     put-word-requires
-    same-length
+    (λ c. search needs)
     returns)

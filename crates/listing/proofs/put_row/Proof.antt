@@ -49,9 +49,6 @@ shared-slice-copy-out-flow c = inside c
 add-put-flow : tie.Need-add-put-flow Inv-loop μ-loop
 add-put-flow c = omega (arith, c .before .before .before .before .before .pre .0)
 
-add-put-flow-2 : tie.Need-add-put-flow-2 Inv-loop μ-loop
-add-put-flow-2 c = omega arith
-
 -- the line, of the number read back from its bits
 line : (c : tie.After-flow Inv-loop μ-loop) →
     let s = c .before .before .before .before .args in
@@ -67,13 +64,8 @@ unfolding rowLines
 put-flow-requires c κs =
     let s = c .before .before .before .before .before in
     let l = c .before .before .before .loop in
-    same-room _ _ (sym (line (c .before))) (line-room (l .b) (s .args .m) (flowAt (s .args .n) (s .args .m) (s .args .a) (s .args .results .now)) (s .pre .2) (l .inv .1) (c .before .before .loop-test .taken))
-
-add-b : tie.Need-add-b Inv-loop μ-loop
-add-b c = omega arith
-
-loop-less : tie.Need-loop-less Inv-loop μ-loop
-loop-less c = omega arith
+    same-room _ _ (sym (line (c .before)))
+    (line-room (l .b) (s .args .m) (flowAt (s .args .n) (s .args .m) (s .args .a) (s .args .results .now)) (s .pre .2) (l .inv .1) (c .before .before .loop-test .taken))
 
 loop-again : tie.Need-loop-again Inv-loop μ-loop
 loop-again c =
@@ -104,10 +96,10 @@ put-row-spec =
     mul-flow-2
     shared-slice-copy-out-flow
     add-put-flow
-    add-put-flow-2
+    (λ c. omega arith)
     put-flow-requires
-    add-b
-    loop-less
+    (λ c. omega arith)
+    (λ c. omega arith)
     loop-again
     same-length
     returns)

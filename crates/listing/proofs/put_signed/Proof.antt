@@ -7,14 +7,11 @@ use lib.IntN.{pos, natAbs}
 use mir.Facts.{toZ-ofZ}
 use Rattle.definitions.specs.Settle.{decimal, decimalZ}
 use Rattle.laws.specs.SignedTests.{left}
-use Rattle.listing.specs.Put.{then, same-bytes, byte, room-second}
+use Rattle.listing.specs.Put.{then-put, same-bytes, byte, room-second}
 use Rattle.listing.specs.Negative.{digits-negative, digits-positive}
 use borrow.Author.Needs.{needs}
 use Rattle.listing.proofs.put_signed.Statement.{statement}
 use Rattle.listing.proofs.put_signed.Tie as tie
-
-size-requires : tie.Need-size-requires
-size-requires c κs = search needs
 
 -- the size that the call gave is that of the number
 sized : (c : tie.After-size) → c .size .result ≡ natAbs (c .before .before .args .v)
@@ -29,9 +26,6 @@ not-below c = digits-positive _ (left (pos 0) (c .before .before .before .fits .
 slice-write-out : tie.Need-slice-write-out
 slice-write-out c = omega (arith, ap length (below c), c .before .before .before .pre)
 
-add-put-digits : tie.Need-add-put-digits
-add-put-digits c = search needs
-
 put-digits-requires : tie.Need-put-digits-requires
 unfolding decimal
 put-digits-requires c κs =
@@ -45,14 +39,11 @@ returns : tie.Need-returns
 unfolding decimal
 returns c =
     let s = c .before .before .before .before .before .before .before in
-    same-bytes (sym (below (c .before .before .before .before))) (then (byte (s .args .out .now) (s .args .at) 45) (c .before .before .put-digits .ensures))
+    same-bytes (sym (below (c .before .before .before .before))) (then-put (byte (s .args .out .now) (s .args .at) 45) (c .before .before .put-digits .ensures))
 
 put-digits-requires-2 : tie.Need-put-digits-requires-2
 unfolding decimal
 put-digits-requires-2 c κs = omega (arith, ap length (not-below (c .before)), c .before .before .before .before .pre)
-
-same-length-2 : tie.Need-same-length-2
-same-length-2 c = search needs
 
 returns-2 : tie.Need-returns-2
 unfolding decimal
@@ -62,12 +53,12 @@ pub put-signed-spec : {M : Type 1} → statement M
 put-signed-spec =
     tie.close
     (tie.spec
-    size-requires
+    (λ c κs. search needs)
     slice-write-out
-    add-put-digits
+    (λ c. search needs)
     put-digits-requires
     same-length
     returns
     put-digits-requires-2
-    same-length-2
+    (λ c. search needs)
     returns-2)

@@ -4,7 +4,7 @@ use mathlib.Core.Path.{_≡_, refl, _∙_}
 use native.Mathlib.Omega.{arith}
 use lib.ListN.{length, length-set}
 use lib.Seq.{paste, paste-zero}
-use Rattle.laws.specs.Write.{one-more, all}
+use Rattle.laws.specs.Write.{one-more, all-written}
 use Rattle.listing.specs.Put.{written-put}
 use Rattle.listing.proofs.put_word.Statement.{statement}
 use Rattle.listing.proofs.put_word.Tie as tie
@@ -21,18 +21,6 @@ loop-holds c = (omega arith, refl, paste-zero (c .args .out .now) (c .args .at) 
 shared-slice-read-out : tie.Need-shared-slice-read-out Inv-loop μ-loop
 shared-slice-read-out c = c .before .loop-test .taken
 
-add-out : tie.Need-add-out Inv-loop μ-loop
-add-out c = omega arith
-
-slice-write-out : tie.Need-slice-write-out Inv-loop μ-loop
-slice-write-out c = omega arith
-
-add-i : tie.Need-add-i Inv-loop μ-loop
-add-i c = omega arith
-
-loop-less : tie.Need-loop-less Inv-loop μ-loop
-loop-less c = omega arith
-
 loop-again : tie.Need-loop-again Inv-loop μ-loop
 loop-again c =
     let l = c .before .before .loop in
@@ -42,9 +30,6 @@ loop-again c =
       one-more 0 (a .out .now) (l .out) (a .at) (a .word .now) (l .i) _ (l .inv .2) refl (omega arith) (c .before .loop-test .taken),
     )
 
-add-result : tie.Need-add-result Inv-loop μ-loop
-add-result c = omega arith
-
 same-length : tie.Need-same-length Inv-loop μ-loop
 same-length c = c .before .loop .inv .1
 
@@ -53,7 +38,7 @@ returns c =
     let l = c .before .loop in
     let a = c .before .before .args in
     let e : l .i ≡ length (a .word .now) = omega arith in
-    rw e (written-put (a .out .now) (l .out) (a .at) (a .word .now) (c .before .before .pre) (all (a .out .now) (l .out) (a .at) (a .word .now) (l .i) (l .inv .2) e))
+    rw e (written-put (a .out .now) (l .out) (a .at) (a .word .now) (c .before .before .pre) (all-written (a .out .now) (l .out) (a .at) (a .word .now) (l .i) (l .inv .2) e))
 
 pub put-word-spec : {M : Type 1} → statement M
 put-word-spec =
@@ -63,11 +48,11 @@ put-word-spec =
     μ-loop
     loop-holds
     shared-slice-read-out
-    add-out
-    slice-write-out
-    add-i
-    loop-less
+    (λ c. omega arith)
+    (λ c. omega arith)
+    (λ c. omega arith)
+    (λ c. omega arith)
     loop-again
-    add-result
+    (λ c. omega arith)
     same-length
     returns)

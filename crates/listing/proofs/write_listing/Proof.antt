@@ -17,9 +17,6 @@ use Rattle.listing.specs.Written.{Listable, listable-facts, text-written
 use Rattle.listing.proofs.write_listing.Statement.{statement}
 use Rattle.listing.proofs.write_listing.Tie as tie
 
-can-list-requires : tie.Need-can-list-requires
-can-list-requires c κs = search needs
-
 -- the listing, of the welfare read back from its bits
 text : (c : tie.Start) → let a = c .args in listing (a .n) (a .m) (a .results .now) (toZ w64 (ofZ w64 (a .welfare))) ≡ listing (a .n) (a .m) (a .results .now) (a .welfare)
 text c = ap (listing (c .args .n) (c .args .m) (c .args .results .now)) (toZ-ofZ (c .fits .welfare))
@@ -37,10 +34,8 @@ fitting c =
     omega (arith, listing-fits (a .n) (a .m) (a .results .now) (a .welfare) (facts c .bids) (facts c .pools), facts c .roomy)
 
 put-listing-requires : tie.Need-put-listing-requires
-put-listing-requires c κs = (facts (c .before) .count, subst (λ (l : List ℕ). length l ≤ length (c .before .before .before .before .args .out .now)) (sym (text (c .before .before .before .before))) (fitting (c .before)))
-
-same-length : tie.Need-same-length
-same-length c = search needs
+put-listing-requires c κs =
+    (facts (c .before) .count, subst (λ (l : List ℕ). length l ≤ length (c .before .before .before .before .args .out .now)) (sym (text (c .before .before .before .before))) (fitting (c .before)))
 
 returns : tie.Need-returns
 unfolding listingSize listingSlice
@@ -54,9 +49,10 @@ returns-2 : tie.Need-returns-2
 unfolding listingSize listingSlice
 returns-2 c =
     let a = c .before .before .before .args in
-    nothing-written (listable (a .n) (a .m) (length (a .results .now)) (length (a .out .now))) (listing (a .n) (a .m) (a .results .now) (a .welfare)) (a .out .now) (test (c .before) false (c .if1 .left))
+    nothing-written (listable (a .n) (a .m) (length (a .results .now)) (length (a .out .now))) (listing (a .n) (a .m) (a .results .now) (a .welfare))
+    (a .out .now) (test (c .before) false (c .if1 .left))
 
 pub write-listing-spec : {M : Type 1} → statement M
 write-listing-spec =
     tie.close
-    (tie.spec can-list-requires put-listing-requires same-length returns returns-2)
+    (tie.spec (λ c κs. search needs) put-listing-requires (λ c. search needs) returns returns-2)

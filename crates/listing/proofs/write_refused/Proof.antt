@@ -22,9 +22,6 @@ put-refused-requires c κs =
     let a = c .before .before .before .args in
     omega (arith, c .before .if1 .left, refused-fits (a .number) (a .place))
 
-same-length : tie.Need-same-length
-same-length c = search needs
-
 returns-2 : tie.Need-returns-2
 unfolding refusedSize refusedSlice
 returns-2 c =
@@ -33,4 +30,4 @@ returns-2 c =
     text-written (leb textRoom (length (a .out .now))) (le-leb _ _ l) (omega (arith, refused-fits (a .number) (a .place))) (c .before .before .put-refused .ensures)
 
 pub write-refused-spec : {M : Type 1} → statement M
-write-refused-spec = tie.close (tie.spec returns put-refused-requires same-length returns-2)
+write-refused-spec = tie.close (tie.spec returns put-refused-requires (λ c. search needs) returns-2)

@@ -16,15 +16,6 @@ returns c =
     let out = c .before .before .args .out .now in
     nothing-written (leb textRoom (length out)) unreadableText out (lt-leb _ _ (c .if1 .taken))
 
-slice-aggregate-put-word : tie.Need-slice-aggregate-put-word
-slice-aggregate-put-word c = search needs
-
-put-word-requires : tie.Need-put-word-requires
-put-word-requires c κs = search needs
-
-same-length : tie.Need-same-length
-same-length c = search needs
-
 returns-2 : tie.Need-returns-2
 unfolding unreadableSize unreadableSlice unreadableText
 returns-2 c =
@@ -34,4 +25,4 @@ returns-2 c =
 pub write-unreadable-spec : {M : Type 1} → statement M
 write-unreadable-spec =
     tie.close
-    (tie.spec returns slice-aggregate-put-word put-word-requires same-length returns-2)
+    (tie.spec returns (λ c. search needs) (λ c κs. search needs) (λ c. search needs) returns-2)

@@ -16,12 +16,6 @@ middle d a b p q = rw (p, q) refl
 returns : tie.Need-returns
 returns c = simp (le-ltb (c .before .before .args .d) cellCount (c .if1 .taken))
 
-holds-residue-requires : tie.Need-holds-residue-requires
-holds-residue-requires c κs = search needs
-
-holds-residue-requires-2 : tie.Need-holds-residue-requires-2
-holds-residue-requires-2 c κs = search needs
-
 returns-2 : tie.Need-returns-2
 returns-2 c =
     let e = c .before .before in
@@ -35,4 +29,4 @@ returns-3 c =
 pub cells-run-spec : {M : Type 1} → statement M
 cells-run-spec =
     tie.close
-    (tie.spec returns holds-residue-requires holds-residue-requires-2 returns-2 returns-3)
+    (tie.spec returns (λ c κs. search needs) (λ c κs. search needs) returns-2 returns-3)

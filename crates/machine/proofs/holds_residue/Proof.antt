@@ -8,14 +8,8 @@ use Rattle.machine.proofs.holds_residue.Tie as tie
 returns : tie.Need-returns
 returns c = simp (le-ltb (c .before .args .c) cellCount (c .if1 .taken))
 
-mul-result : tie.Need-mul-result
-mul-result c = search needs
-
-shared-slice-read-result : tie.Need-shared-slice-read-result
-shared-slice-read-result c = search needs
-
 returns-2 : tie.Need-returns-2
 returns-2 c = simp (lt-ltb (c .before .before .args .c) cellCount (c .before .if1 .left))
 
 pub holds-residue-spec : {M : Type 1} → statement M
-holds-residue-spec = tie.close (tie.spec returns mul-result shared-slice-read-result returns-2)
+holds-residue-spec = tie.close (tie.spec returns (λ c. search needs) (λ c. search needs) returns-2)

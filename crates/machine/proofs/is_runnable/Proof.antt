@@ -9,7 +9,8 @@ use Rattle.machine.specs.Step.{runs, runnable}
 use Rattle.machine.proofs.is_runnable.Statement.{statement}
 use Rattle.machine.proofs.is_runnable.Tie as tie
 
-told : (c : tie.Else1) (was : Order) → c .before .before .args .order ≡ was → runs (c .before .before .args .sheet .now) was ≡ runnable (c .before .before .args .sheet .now) (c .before .before .args .order)
+told : (c : tie.Else1) (was : Order) → c .before .before .args .order ≡ was
+    → runs (c .before .before .args .sheet .now) was ≡ runnable (c .before .before .args .sheet .now) (c .before .before .args .order)
 told c was e =
     let s = c .before .before .args .sheet .now in
     let q : runs s was ≡ runnable s was = rw (eq-eqb (length s) cellCount (c .if1 .left)) refl in
@@ -17,42 +18,6 @@ told c was e =
 
 returns : tie.Need-returns
 returns c = simp (ne-eqb (length (c .before .before .args .sheet .now)) cellCount (c .if1 .taken))
-
-enum-known-order : tie.Need-enum-known-order
-enum-known-order c = search needs
-
-constant-runs-requires : tie.Need-constant-runs-requires
-constant-runs-requires c κs = search needs
-
-enum-known-order-2 : tie.Need-enum-known-order-2
-enum-known-order-2 c = search needs
-
-cells-run-requires : tie.Need-cells-run-requires
-cells-run-requires c κs = search needs
-
-enum-known-order-3 : tie.Need-enum-known-order-3
-enum-known-order-3 c = search needs
-
-cells-run-requires-2 : tie.Need-cells-run-requires-2
-cells-run-requires-2 c κs = search needs
-
-enum-known-order-4 : tie.Need-enum-known-order-4
-enum-known-order-4 c = search needs
-
-cells-run-requires-3 : tie.Need-cells-run-requires-3
-cells-run-requires-3 c κs = search needs
-
-enum-known-order-5 : tie.Need-enum-known-order-5
-enum-known-order-5 c = search needs
-
-cells-run-requires-4 : tie.Need-cells-run-requires-4
-cells-run-requires-4 c κs = search needs
-
-enum-known-order-6 : tie.Need-enum-known-order-6
-enum-known-order-6 c = search needs
-
-cells-run-requires-5 : tie.Need-cells-run-requires-5
-cells-run-requires-5 c κs = search needs
 
 returns-2 : tie.Need-returns-2
 returns-2 c = c .constant-runs .ensures ∙ told (c .before .before .before .before) _ (c .before .before .order .given .1)
@@ -77,18 +42,18 @@ is-runnable-spec =
     tie.close
     (tie.spec
     returns
-    enum-known-order
-    constant-runs-requires
-    enum-known-order-2
-    cells-run-requires
-    enum-known-order-3
-    cells-run-requires-2
-    enum-known-order-4
-    cells-run-requires-3
-    enum-known-order-5
-    cells-run-requires-4
-    enum-known-order-6
-    cells-run-requires-5
+    (λ c. search needs)
+    (λ c κs. search needs)
+    (λ c. search needs)
+    (λ c κs. search needs)
+    (λ c. search needs)
+    (λ c κs. search needs)
+    (λ c. search needs)
+    (λ c κs. search needs)
+    (λ c. search needs)
+    (λ c κs. search needs)
+    (λ c. search needs)
+    (λ c κs. search needs)
     returns-2
     returns-3
     returns-4

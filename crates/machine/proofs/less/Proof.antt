@@ -10,13 +10,8 @@ use Rattle.residues.specs.Residues.{read-residue}
 use Rattle.machine.proofs.less.Statement.{statement}
 use Rattle.machine.proofs.less.Tie as tie
 
-reading-requires : tie.Need-reading-requires
-reading-requires c κs = search needs
-
-reading-requires-2 : tie.Need-reading-requires-2
-reading-requires-2 c κs = search needs
-
-test : (c : tie.After-reading2) → ltZ (toZ w32 (ofZ w32 (c .before .reading .result))) (toZ w32 (ofZ w32 (c .reading2 .result))) ≡ ltZ (reading (c .before .before .args .x)) (reading (c .before .before .args .y))
+test : (c : tie.After-reading2)
+    → ltZ (toZ w32 (ofZ w32 (c .before .reading .result))) (toZ w32 (ofZ w32 (c .reading2 .result))) ≡ ltZ (reading (c .before .before .args .x)) (reading (c .before .before .args .y))
 test c =
     ap₂ ltZ
     (back w32 (c .before .reading .result) (c .before .reading .ok) ∙ c .before .reading .ensures ∙ read-residue _ (c .before .before .pre .0))
@@ -29,4 +24,4 @@ returns-2 : tie.Need-returns-2
 returns-2 c = simp (sym (test (c .before)) ∙ c .if1 .left)
 
 pub less-spec : {M : Type 1} → statement M
-less-spec = tie.close (tie.spec reading-requires reading-requires-2 returns returns-2)
+less-spec = tie.close (tie.spec (λ c κs. search needs) (λ c κs. search needs) returns returns-2)

@@ -7,17 +7,5 @@ use Rattle.machine.proofs.product.Tie as tie
 mul-result : tie.Need-mul-result
 mul-result c = record { fits = below 32 (c .fits .x .fits) (c .fits .y .fits) }
 
-cast-result : tie.Need-cast-result
-cast-result c = search needs
-
-rem-result : tie.Need-rem-result
-rem-result c = search needs
-
-cast-result-2 : tie.Need-cast-result-2
-cast-result-2 c = search needs
-
-returns : tie.Need-returns
-returns c = search needs
-
 pub product-spec : {M : Type 1} → statement M
-product-spec = tie.close (tie.spec mul-result cast-result rem-result cast-result-2 returns)
+product-spec = tie.close (tie.spec mul-result (λ c. search needs) (λ c. search needs) (λ c. search needs) (λ c. search needs))

@@ -6,23 +6,11 @@ use Rattle.machine.proofs.KindResult.{known, unknown}
 use Rattle.machine.proofs.result.Statement.{statement}
 use Rattle.machine.proofs.result.Tie as tie
 
-sum-requires : tie.Need-sum-requires
-sum-requires c κs = search needs
-
 difference-requires : tie.Need-difference-requires
 difference-requires c κs = c .before .pre (omega (arith, c .match .keys3)) .1
 
-product-requires : tie.Need-product-requires
-product-requires c κs = search needs
-
 less-requires : tie.Need-less-requires
 less-requires c κs = c .before .pre (omega (arith, c .match .keys5))
-
-equal-requires : tie.Need-equal-requires
-equal-requires c κs = search needs
-
-returns : tie.Need-returns
-returns c = search needs
 
 returns-2 : tie.Need-returns-2
 returns-2 c = c .sum .ensures ∙ known (c .before .before .args .kind) 1 _ _ _ (c .before .match .keys2)
@@ -48,12 +36,12 @@ pub result-spec : {M : Type 1} → statement M
 result-spec =
     tie.close
     (tie.spec
-    sum-requires
+    (λ c κs. search needs)
     difference-requires
-    product-requires
+    (λ c κs. search needs)
     less-requires
-    equal-requires
-    returns
+    (λ c κs. search needs)
+    (λ c. search needs)
     returns-2
     returns-3
     returns-4

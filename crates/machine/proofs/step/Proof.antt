@@ -5,14 +5,8 @@ use Rattle.machine.specs.Step.{stepped-run, stepped-left}
 use Rattle.machine.proofs.step.Statement.{statement}
 use Rattle.machine.proofs.step.Tie as tie
 
-is-runnable-requires : tie.Need-is-runnable-requires
-is-runnable-requires c κs = search needs
-
 step-within-requires : tie.Need-step-within-requires
 step-within-requires c κs = sym (c .before .before .is-runnable .ensures) ∙ c .before .if1 .taken
-
-same-length : tie.Need-same-length
-same-length c = search needs
 
 returns : tie.Need-returns
 returns c =
@@ -20,9 +14,6 @@ returns c =
     let a = t .before .before .before .before .args in
     c .before .before .step-within .ensures
     ∙ sym (stepped-run (a .sheet .now) (a .order) (sym (t .before .is-runnable .ensures) ∙ t .if1 .taken))
-
-same-length-2 : tie.Need-same-length-2
-same-length-2 c = search needs
 
 returns-2 : tie.Need-returns-2
 returns-2 c =
@@ -33,9 +24,9 @@ pub step-spec : {M : Type 1} → statement M
 step-spec =
     tie.close
     (tie.spec
-    is-runnable-requires
+    (λ c κs. search needs)
     step-within-requires
-    same-length
+    (λ c. search needs)
     returns
-    same-length-2
+    (λ c. search needs)
     returns-2)

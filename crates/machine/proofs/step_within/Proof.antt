@@ -19,9 +19,6 @@ within c =
 in-sheet : (c : tie.After-parts-of) (i : ℕ) → i < cellCount → i < length (c .before .before .args .sheet .now)
 in-sheet c i l = rw (within c .cells) l
 
-parts-of-requires : tie.Need-parts-of-requires
-parts-of-requires c κs = search needs
-
 slice-read-x : tie.Need-slice-read-x
 slice-read-x c = let h = within (c .before) in in-sheet (c .before) _ (omega (arith, h .target, h .left, h .right))
 
@@ -43,9 +40,6 @@ slice-write-sheet c = let h = within (c .before .before .before) in in-sheet (c 
 mul-sheet : tie.Need-mul-sheet
 mul-sheet c = scaled-fits _ _ 4 (slice-write-sheet c) (c .before .before .before .before .before .good .0 .1)
 
-same-length : tie.Need-same-length
-same-length c = search needs
-
 returns : tie.Need-returns
 returns c =
     let q = c .before .before .before .parts-of in
@@ -58,7 +52,7 @@ pub step-within-spec : {M : Type 1} → statement M
 step-within-spec =
     tie.close
     (tie.spec
-    parts-of-requires
+    (λ c κs. search needs)
     mul-x
     slice-read-x
     mul-y
@@ -66,5 +60,5 @@ step-within-spec =
     result-requires
     mul-sheet
     slice-write-sheet
-    same-length
+    (λ c. search needs)
     returns)

@@ -10,7 +10,7 @@ use lib.Seq.{paste, paste-zero}
 use mir.Syntax.{w32}
 use borrow.Author.Needs.{needs, scaled-fits}
 use Rattle.laws.specs.SignedTests.{back}
-use Rattle.laws.specs.Write.{one-more, all}
+use Rattle.laws.specs.Write.{one-more, all-written}
 use Rattle.residues.specs.Residues.{read-residue}
 use Rattle.opening.proofs.Readings.{readings, readings-length, reading-at, written-over}
 use Rattle.opening.proofs.copy_readings.Statement.{statement}
@@ -32,35 +32,17 @@ source-length s = readings-length (s .args .sheet .now) (s .args .from) (length 
 loop-holds : tie.Need-loop-holds Inv-loop μ-loop
 loop-holds c = (omega arith, refl, paste-zero (c .before .args .out .now) 0 (source (c .before)))
 
-add-c : tie.Need-add-c Inv-loop μ-loop
-add-c c = omega arith
-
 mul-x : tie.Need-mul-x Inv-loop μ-loop
 mul-x c =
     let s = c .before .before .before in
     let h : s .args .from + c .before .loop .i < length (s .args .sheet .now) = omega arith in
     scaled-fits _ _ 4 h (s .good .0 .1)
 
-shared-slice-read-x : tie.Need-shared-slice-read-x Inv-loop μ-loop
-shared-slice-read-x c = omega arith
-
-reading-requires : tie.Need-reading-requires Inv-loop μ-loop
-reading-requires c κs = search needs
-
 mul-r : tie.Need-mul-r Inv-loop μ-loop
 mul-r c =
     let s = c .before .before .before .before .before in
     let h : c .before .before .before .loop .i < length (s .args .out .now) = omega arith in
     scaled-fits _ _ 4 h (s .good .1 .1 .0 .1)
-
-slice-set-from-r : tie.Need-slice-set-from-r Inv-loop μ-loop
-slice-set-from-r c = omega arith
-
-add-i : tie.Need-add-i Inv-loop μ-loop
-add-i c = omega arith
-
-loop-less : tie.Need-loop-less Inv-loop μ-loop
-loop-less c = omega arith
 
 loop-again : tie.Need-loop-again Inv-loop μ-loop
 loop-again c =
@@ -76,14 +58,11 @@ loop-again c =
           (rw (source-length s) h)),
     )
 
-same-length : tie.Need-same-length Inv-loop μ-loop
-same-length c = omega arith
-
 returns : tie.Need-returns Inv-loop μ-loop
 returns c =
     let s = c .before .before .before in
     let l = c .before .loop in
-    all (s .args .out .now) (l .out) 0 (source s) (l .i) (l .inv .2) (rw (source-length s) (omega arith))
+    all-written (s .args .out .now) (l .out) 0 (source s) (l .i) (l .inv .2) (rw (source-length s) (omega arith))
     ∙ written-over (s .args .out .now) (source s) (omega (arith, source-length s))
 
 pub copy-readings-spec : {M : Type 1} → statement M
@@ -93,14 +72,14 @@ copy-readings-spec =
     Inv-loop
     μ-loop
     loop-holds
-    add-c
+    (λ c. omega arith)
     mul-x
-    shared-slice-read-x
-    reading-requires
+    (λ c. omega arith)
+    (λ c κs. search needs)
     mul-r
-    slice-set-from-r
-    add-i
-    loop-less
+    (λ c. omega arith)
+    (λ c. omega arith)
+    (λ c. omega arith)
     loop-again
-    same-length
+    (λ c. omega arith)
     returns)

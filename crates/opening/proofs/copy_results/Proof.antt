@@ -8,16 +8,10 @@ use Rattle.opening.proofs.Readings.{opened}
 use Rattle.opening.proofs.copy_results.Statement.{statement}
 use Rattle.opening.proofs.copy_results.Tie as tie
 
-first-result-requires : tie.Need-first-result-requires
-first-result-requires c κs = search needs
-
 copy-readings-requires : tie.Need-copy-readings-requires
 copy-readings-requires c κs =
     let s = c .before .before .before in
     (omega (arith, square (s .args .m) (s .pre .0 .1)), s .pre .1 .1)
-
-same-length : tie.Need-same-length
-same-length c = search needs
 
 returns : tie.Need-returns
 returns c =
@@ -27,4 +21,4 @@ returns c =
 
 pub copy-results-spec : {M : Type 1} → statement M
 copy-results-spec =
-    tie.close (tie.spec first-result-requires copy-readings-requires same-length returns)
+    tie.close (tie.spec (λ c κs. search needs) copy-readings-requires (λ c. search needs) returns)

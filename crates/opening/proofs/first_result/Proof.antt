@@ -5,17 +5,11 @@ use Rattle.opening.proofs.Acceptance.{square}
 use Rattle.opening.proofs.first_result.Statement.{statement}
 use Rattle.opening.proofs.first_result.Tie as tie
 
-mul-result : tie.Need-mul-result
-mul-result c = search needs
-
 mul-result-2 : tie.Need-mul-result-2
 mul-result-2 c = omega (arith, square (c .args .m) (c .pre .1))
 
 add-result : tie.Need-add-result
 add-result c = omega (arith, square (c .args .m) (c .pre .1))
 
-returns : tie.Need-returns
-returns c = search needs
-
 pub first-result-spec : {M : Type 1} → statement M
-first-result-spec = tie.close (tie.spec mul-result mul-result-2 add-result returns)
+first-result-spec = tie.close (tie.spec (λ c. search needs) mul-result-2 add-result (λ c. search needs))

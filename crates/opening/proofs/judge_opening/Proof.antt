@@ -19,12 +19,6 @@ byLengths s = lengthRefusal (eqb (length (s .args .sheet .now)) cellCount && eqb
 abbrev byCells : tie.Start → Refusal
 byCells s = cellsRefusal (s .args .sheet .now)
 
-judge-counts-requires : tie.Need-judge-counts-requires
-judge-counts-requires c κs = search needs
-
-is-accepted-requires : tie.Need-is-accepted-requires
-is-accepted-requires c κs = search needs
-
 returns : tie.Need-returns
 unfolding openRefusal
 returns c =
@@ -38,9 +32,6 @@ counts-passed c =
 judge-lengths-requires : tie.Need-judge-lengths-requires
 judge-lengths-requires c κs = let h = counted _ _ (counts-passed c) in (h .bids, h .pools .most)
 
-is-accepted-requires-2 : tie.Need-is-accepted-requires-2
-is-accepted-requires-2 c κs = search needs
-
 returns-2 : tie.Need-returns-2
 unfolding openRefusal
 returns-2 c =
@@ -48,9 +39,6 @@ returns-2 c =
     let s = o .before .before .before .before in
     first-to-refuse {asked = byLengths s} (c .before .before .judge-lengths .ensures) (c .before .is-accepted2 .ensures) (byCells s) (c .if2 .taken)
     ∙ after-none (first (byLengths s) (byCells s)) (counts-passed o)
-
-judge-cells-requires : tie.Need-judge-cells-requires
-judge-cells-requires c κs = search needs
 
 returns-3 : tie.Need-returns-3
 unfolding openRefusal
@@ -67,11 +55,11 @@ pub judge-opening-spec : {M : Type 1} → statement M
 judge-opening-spec =
     tie.close
     (tie.spec
-    judge-counts-requires
-    is-accepted-requires
+    (λ c κs. search needs)
+    (λ c κs. search needs)
     returns
     judge-lengths-requires
-    is-accepted-requires-2
+    (λ c κs. search needs)
     returns-2
-    judge-cells-requires
+    (λ c κs. search needs)
     returns-3)

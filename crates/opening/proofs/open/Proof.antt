@@ -5,21 +5,12 @@ use Rattle.opening.proofs.Acceptance.{when-accepted, slice-written, sli
 use Rattle.opening.proofs.open.Statement.{statement}
 use Rattle.opening.proofs.open.Tie as tie
 
-judge-opening-requires : tie.Need-judge-opening-requires
-judge-opening-requires c κs = search needs
-
-is-accepted-requires : tie.Need-is-accepted-requires
-is-accepted-requires c κs = search needs
-
 copy-results-requires : tie.Need-copy-results-requires
 copy-results-requires c κs =
     let t = c .before in
     let a = t .before .before .before .before .args in
     let h = when-accepted (a .n) (a .m) (a .sheet .now) (a .out .now) _ _ (t .before .before .judge-opening .ensures) (t .before .is-accepted .ensures) (t .if1 .taken) in
     ((h .counts .bids, h .counts .pools .most), ((h .lengths .sheet, h .lengths .out), h .below))
-
-same-length : tie.Need-same-length
-same-length c = search needs
 
 returns : tie.Need-returns
 returns c =
@@ -43,9 +34,9 @@ pub open-spec : {M : Type 1} → statement M
 open-spec =
     tie.close
     (tie.spec
-    judge-opening-requires
-    is-accepted-requires
+    (λ c κs. search needs)
+    (λ c κs. search needs)
     copy-results-requires
-    same-length
+    (λ c. search needs)
     returns
     returns-2)

@@ -11,14 +11,8 @@ mul-result c = omega (arith, square (c .args .m) (c .pre .1))
 add-result : tie.Need-add-result
 add-result c = omega (arith, square (c .args .m) (c .pre .1))
 
-mul-result-2 : tie.Need-mul-result-2
-mul-result-2 c = search needs
-
 add-result-2 : tie.Need-add-result-2
 add-result-2 c = omega (arith, square (c .args .m) (c .pre .1))
 
-returns : tie.Need-returns
-returns c = search needs
-
 pub result-count-spec : {M : Type 1} → statement M
-result-count-spec = tie.close (tie.spec mul-result add-result mul-result-2 add-result-2 returns)
+result-count-spec = tie.close (tie.spec mul-result add-result (λ c. search needs) add-result-2 (λ c. search needs))

@@ -9,7 +9,7 @@ use mir.Syntax.{w32}
 use mir.Val.{toZ, SFits}
 use mir.Facts.{toZ-pos, toZ-ofZ}
 use Rattle.definitions.specs.Limits.{modulus, greatestPositive}
-use Rattle.residues.specs.Residues.{lowered}
+use Rattle.residues.specs.Residues.{less-modulus}
 use Rattle.residues.proofs.reading.Statement.{statement}
 use Rattle.residues.proofs.reading.Tie as tie
 
@@ -20,14 +20,8 @@ itself c = toZ-pos w32 (let h : c .before .args .x < 2 ^ 31 = omega (arith, c .i
 returns : tie.Need-returns
 returns c = simp (le-ltb _ _ (c .if1 .taken))
 
-cast-result : tie.Need-cast-result
-cast-result c = search needs
-
-cast-result-2 : tie.Need-cast-result-2
-cast-result-2 c = search needs
-
 sub-result : tie.Need-sub-result
-sub-result c = rw (itself (c .before), lowered (c .before .before .args .x) (c .before .if1 .left)) (record { sfits = omega arith })
+sub-result c = rw (itself (c .before), less-modulus (c .before .before .args .x) (c .before .if1 .left)) (record { sfits = omega arith })
 
 returns-2 : tie.Need-returns-2
 returns-2 c =
@@ -36,9 +30,6 @@ returns-2 c =
     ∙ ap (λ (z : ℤ). z -ℤ pos modulus) (itself (c .before))
     ∙ rw (lt-ltb (c .before .before .args .x) modulus (c .before .if1 .left), lt-ltb greatestPositive (c .before .before .args .x) (omega (arith, c .before .if1 .left, c .if2 .taken))) refl
 
-cast-result-3 : tie.Need-cast-result-3
-cast-result-3 c = search needs
-
 returns-3 : tie.Need-returns-3
 returns-3 c =
     itself (c .before)
@@ -46,4 +37,4 @@ returns-3 c =
 
 pub reading-spec : {M : Type 1} → statement M
 reading-spec =
-    tie.close (tie.spec returns cast-result cast-result-2 sub-result returns-2 cast-result-3 returns-3)
+    tie.close (tie.spec returns (λ c. search needs) (λ c. search needs) sub-result returns-2 (λ c. search needs) returns-3)

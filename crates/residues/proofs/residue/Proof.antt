@@ -21,9 +21,6 @@ negative c = left (pos 0) (c .before .fits .v) (c .if1 .taken)
 up : (c : tie.Then1) → Raised (c .before .args .v) (toZ w32 (ofZ w32 (c .before .args .v)) +ℤ pos modulus)
 up c = rw (toZ-ofZ (c .before .fits .v)) (raised (c .before .args .v) (negative c))
 
-cast-raised : tie.Need-cast-raised
-cast-raised c = search needs
-
 add-raised : tie.Need-add-raised
 add-raised c = rw (toZ-ofZ (c .before .fits .v)) (raised-fits (c .before .args .v) _ (c .before .fits .v) (negative c) (omega arith))
 
@@ -49,4 +46,4 @@ returns-3 c =
 pub residue-spec : {M : Type 1} → statement M
 residue-spec =
     tie.close
-    (tie.spec cast-raised add-raised returns cast-result returns-2 cast-result-2 returns-3)
+    (tie.spec (λ c. search needs) add-raised returns cast-result returns-2 cast-result-2 returns-3)

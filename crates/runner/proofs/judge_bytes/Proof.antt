@@ -21,23 +21,17 @@ abbrev μ-loop : tie.MeasureT-loop
 loop-holds : tie.Need-loop-holds Inv-loop μ-loop
 loop-holds c = (ap (λ (p : Parsed). p .refusal) (rest-start (c .before .args .bytes .now)), omega arith)
 
-read-order-requires : tie.Need-read-order-requires Inv-loop μ-loop
-read-order-requires c κs = tt
-
-enum-known-verdict : tie.Need-enum-known-verdict Inv-loop μ-loop
-enum-known-verdict c = search needs
-
 returns : tie.Need-returns Inv-loop μ-loop
 returns c =
     let l = c .before .before .before .before .before .loop in
     let b = c .before .before .before .before .before .before .before .args .bytes .now in
-    sym (l .inv .0 ∙ ap (λ (p : Parsed). p .refusal) (turn-refused b (l .at) (c .before .before .before .before .loop-test .taken) (refusalOf (c .before .verdict .given .0 .0)) (sym (ap orderAnswer (c .before .verdict .given .1)) ∙ c .before .before .before .read-order .ensures)))
-
-enum-known-next : tie.Need-enum-known-next Inv-loop μ-loop
-enum-known-next c = search needs
+    let answer = sym (ap orderAnswer (c .before .verdict .given .1)) ∙ c .before .before .before .read-order .ensures in
+    let ended = turn-refused b (l .at) (c .before .before .before .before .loop-test .taken) (refusalOf (c .before .verdict .given .0 .0)) answer in
+    sym (l .inv .0 ∙ ap (λ (p : Parsed). p .refusal) ended)
 
 -- the order that was read
-answered : (c : tie.After-known-told2 Inv-loop μ-loop) → given (c .before .next .given .0 .0) (c .before .next .given .0 .1 .0) ≡ answerAt (c .before .before .before .before .before .loop .at) (orderAt (c .before .before .before .before .before .before .before .args .bytes .now) (c .before .before .before .before .before .loop .at))
+answered : (c : tie.After-known-told2 Inv-loop μ-loop) → let l = c .before .before .before .before .before in
+    given (c .before .next .given .0 .0) (c .before .next .given .0 .1 .0) ≡ answerAt (l .loop .at) (orderAt (l .before .before .args .bytes .now) (l .loop .at))
 answered c = sym (ap orderAnswer (c .before .next .given .1)) ∙ c .before .before .before .read-order .ensures
 
 loop-less : tie.Need-loop-less Inv-loop μ-loop
@@ -62,10 +56,10 @@ judge-bytes-spec =
     Inv-loop
     μ-loop
     loop-holds
-    read-order-requires
-    enum-known-verdict
+    (λ c κs. tt)
+    (λ c. search needs)
     returns
-    enum-known-next
+    (λ c. search needs)
     loop-less
     loop-again
     returns-2)

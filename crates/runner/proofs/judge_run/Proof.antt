@@ -11,20 +11,12 @@ returns c =
     let a = c .before .before .before .args in
     sym (refused-length (a .sheet .now) (a .bytes .now) (c .if1 .taken))
 
-judge-cells-requires : tie.Need-judge-cells-requires
-judge-cells-requires c κs = search needs
-
-is-accepted-requires : tie.Need-is-accepted-requires
-is-accepted-requires c κs = search needs
-
-judge-bytes-requires : tie.Need-judge-bytes-requires
-judge-bytes-requires c κs = search needs
-
 returns-2 : tie.Need-returns-2
 returns-2 c =
     let a = c .before .before .before .before .before .before .before .args in
     let p = c .before .before .before .judge-cells in
-    c .judge-bytes .ensures ∙ sym (refused-bytes (a .sheet .now) (a .bytes .now) (c .before .before .before .before .if1 .left) (sym (ap isNone (p .ensures)) ∙ sym (c .before .before .is-accepted .ensures) ∙ c .before .if2 .taken))
+    c .judge-bytes .ensures ∙ sym (refused-bytes (a .sheet .now) (a .bytes .now) (c .before .before .before .before .if1 .left)
+    (sym (ap isNone (p .ensures)) ∙ sym (c .before .before .is-accepted .ensures) ∙ c .before .if2 .taken))
 
 returns-3 : tie.Need-returns-3
 returns-3 c =
@@ -37,8 +29,8 @@ judge-run-spec =
     tie.close
     (tie.spec
     returns
-    judge-cells-requires
-    is-accepted-requires
-    judge-bytes-requires
+    (λ c κs. search needs)
+    (λ c κs. search needs)
+    (λ c κs. search needs)
     returns-2
     returns-3)

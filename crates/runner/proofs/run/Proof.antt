@@ -16,19 +16,10 @@ accepted c = sym (ap isNone (c .before .before .judge-run .ensures)) ∙ sym (c 
 refused : (c : tie.Else1) → let a = c .before .before .before .before .before .before .args in isNone (runRefusal (a .sheet .now) (a .bytes .now)) ≡ false
 refused c = sym (ap isNone (c .before .before .judge-run .ensures)) ∙ sym (c .before .is-accepted .ensures) ∙ c .if1 .left
 
-judge-run-requires : tie.Need-judge-run-requires
-judge-run-requires c κs = search needs
-
-is-accepted-requires : tie.Need-is-accepted-requires
-is-accepted-requires c κs = search needs
-
 run-orders-requires : tie.Need-run-orders-requires
 run-orders-requires c κs =
     let a = c .before .before .before .before .before .before .before .args in
     ran-on-sheet (a .sheet .now) (a .bytes .now) (is-none (runRefusal (a .sheet .now) (a .bytes .now)) (accepted (c .before)))
-
-same-length : tie.Need-same-length
-same-length c = search needs
 
 returns : tie.Need-returns
 returns c =
@@ -38,9 +29,6 @@ returns c =
       c .before .before .before .before .before .before .judge-run .ensures,
       (p .ensures .0 ∙ sym (count-accepted (a .sheet .now) (a .bytes .now) t), p .ensures .1 ∙ sym (sheet-run (a .sheet .now) (a .bytes .now) t)),
     )
-
-same-length-2 : tie.Need-same-length-2
-same-length-2 c = search needs
 
 returns-2 : tie.Need-returns-2
 returns-2 c =
@@ -53,10 +41,10 @@ pub run-spec : {M : Type 1} → statement M
 run-spec =
     tie.close
     (tie.spec
-    judge-run-requires
-    is-accepted-requires
+    (λ c κs. search needs)
+    (λ c κs. search needs)
     run-orders-requires
-    same-length
+    (λ c. search needs)
     returns
-    same-length-2
+    (λ c. search needs)
     returns-2)

@@ -22,12 +22,6 @@ abbrev μ-loop : tie.MeasureT-loop
 loop-holds : tie.Need-loop-holds Inv-loop μ-loop
 loop-holds c = begin (c .before .before .args .bytes .now) (c .before .before .args .sheet .now) (c .before .before .pre)
 
-read-order-requires : tie.Need-read-order-requires Inv-loop μ-loop
-read-order-requires c κs = tt
-
-enum-told : tie.Need-enum-told Inv-loop μ-loop
-enum-told c = search needs
-
 same-length : tie.Need-same-length Inv-loop μ-loop
 same-length c = c .before .before .before .before .loop .inv .is-sheet .cells ∙ sym (c .before .before .before .before .before .before .before .pre .cells)
 
@@ -36,22 +30,18 @@ returns c =
     let l = c .before .before .before .before .loop in
     let a = c .before .before .before .before .before .before .before .args in
     let x = refusalOf (c .enum-told .given .0 .0) in
-    finish (a .bytes .now) (a .sheet .now) (l .sheet) (l .at) (l .count) (l .inv) x (turn-refused (a .bytes .now) (l .at) (c .before .before .before .loop-test .taken) x (sym (ap orderAnswer (c .enum-told .given .1)) ∙ c .before .before .read-order .ensures))
-
-enum-known-order : tie.Need-enum-known-order Inv-loop μ-loop
-enum-known-order c = search needs
+    finish (a .bytes .now) (a .sheet .now) (l .sheet) (l .at) (l .count) (l .inv) x
+    (turn-refused (a .bytes .now) (l .at) (c .before .before .before .loop-test .taken) x (sym (ap orderAnswer (c .enum-told .given .1)) ∙ c .before .before .read-order .ensures))
 
 -- the order that was read
-answered : (c : tie.After-known-told Inv-loop μ-loop) → given (c .before .order .given .0 .0) (c .before .order .given .0 .1 .0) ≡ answerAt (c .before .before .before .before .before .loop .at) (orderAt (c .before .before .before .before .before .before .before .before .args .bytes .now) (c .before .before .before .before .before .loop .at))
+answered : (c : tie.After-known-told Inv-loop μ-loop) → let l = c .before .before .before .before .before in
+    given (c .before .order .given .0 .0) (c .before .order .given .0 .1 .0) ≡ answerAt (l .loop .at) (orderAt (l .before .before .before .args .bytes .now) (l .loop .at))
 answered c = sym (ap orderAnswer (c .before .order .given .1)) ∙ c .before .before .before .read-order .ensures
-
-step-requires : tie.Need-step-requires Inv-loop μ-loop
-step-requires c κs = search needs
 
 add-count : tie.Need-add-count Inv-loop μ-loop
 add-count c =
-    let l = c .before .before .before .before .before .before .before .before .before .loop in
-    omega (arith, l .inv .fewer, c .before .before .before .before .before .before .before .before .loop-test .taken, c .before .before .before .before .before .before .before .before .before .before .before .before .good .1 .0 .0)
+    let t = c .before .before .before .before .before .before .before .before in
+    omega (arith, t .before .loop .inv .fewer, t .loop-test .taken, t .before .before .before .before .good .1 .0 .0)
 
 loop-less : tie.Need-loop-less Inv-loop μ-loop
 loop-less c =
@@ -60,9 +50,12 @@ loop-less c =
 
 loop-again : tie.Need-loop-again Inv-loop μ-loop
 loop-again c =
-    let l = c .before .before .before .before .before .before .before .before .before .loop in
-    let a = c .before .before .before .before .before .before .before .before .before .before .before .before .args in
-    onward (a .bytes .now) (a .sheet .now) (l .sheet) (l .at) (l .count) (l .inv) _ _ (c .before .before .step .last .0) (c .before .before .before .before .before .before .before .before .loop-test .taken) (answered (c .before .before .before .before)) (c .before .before .step .ensures ∙ stepped-is (l .sheet) _ (l .inv .is-sheet) (turn-read _ _ _ _ (answered (c .before .before .before .before)) .wellFormed))
+    let r = c .before .before .before .before in
+    let t = r .before .before .before .before in
+    let l = t .before .loop in
+    let a = t .before .before .before .before .args in
+    onward (a .bytes .now) (a .sheet .now) (l .sheet) (l .at) (l .count) (l .inv) _ _ (c .before .before .step .last .0) (t .loop-test .taken) (answered r)
+    (c .before .before .step .ensures ∙ stepped-is (l .sheet) _ (l .inv .is-sheet) (turn-read _ _ _ _ (answered r) .wellFormed))
 
 same-length-2 : tie.Need-same-length-2 Inv-loop μ-loop
 same-length-2 c = c .before .loop .inv .is-sheet .cells ∙ sym (c .before .before .before .before .pre .cells)
@@ -80,12 +73,12 @@ run-orders-spec =
     Inv-loop
     μ-loop
     loop-holds
-    read-order-requires
-    enum-told
+    (λ c κs. tt)
+    (λ c. search needs)
     same-length
     returns
-    enum-known-order
-    step-requires
+    (λ c. search needs)
+    (λ c κs. search needs)
     add-count
     loop-less
     loop-again

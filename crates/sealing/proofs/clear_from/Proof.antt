@@ -6,7 +6,7 @@ use native.Mathlib.Omega.{arith}
 use lib.ListN.{length, set, replicate, length-set, length-replicate, getD-replicate}
 use lib.Seq.{paste, paste-zero}
 use borrow.Author.Needs.{scaled-fits}
-use Rattle.laws.specs.Write.{written, one-more, all}
+use Rattle.laws.specs.Write.{written, one-more, all-written}
 use Rattle.sealing.proofs.clear_from.Statement.{statement}
 use Rattle.sealing.proofs.clear_from.Tie as tie
 
@@ -33,7 +33,7 @@ cleared s₀ s at c h k e =
     ∙ ap (paste s₀ at z) (let q : c - at + 1 ≡ c + 1 - at = omega arith in q)
 
 done : (s₀ s : List ℕ) (at c : ℕ) → at ≤ c → c ≡ length s₀ → s ≡ paste s₀ at (zeros s₀ at) (c - at) → s ≡ written s₀ at (zeros s₀ at)
-done s₀ s at c h k e = all s₀ s at (zeros s₀ at) (c - at) e (rw length-replicate (omega arith))
+done s₀ s at c h k e = all-written s₀ s at (zeros s₀ at) (c - at) e (rw length-replicate (omega arith))
 
 loop-holds : tie.Need-loop-holds Inv-loop μ-loop
 loop-holds c = (omega arith, c .pre, refl, begun (c .args .sheet .now) (c .args .at))
@@ -41,23 +41,11 @@ loop-holds c = (omega arith, c .pre, refl, begun (c .args .sheet .now) (c .args 
 mul-sheet : tie.Need-mul-sheet Inv-loop μ-loop
 mul-sheet c = scaled-fits _ _ 4 (let h : c .before .loop .c < length (c .before .before .args .sheet .now) = omega arith in h) (c .before .before .good .0 .1)
 
-slice-write-sheet : tie.Need-slice-write-sheet Inv-loop μ-loop
-slice-write-sheet c = omega arith
-
-add-c : tie.Need-add-c Inv-loop μ-loop
-add-c c = omega arith
-
-loop-less : tie.Need-loop-less Inv-loop μ-loop
-loop-less c = omega arith
-
 loop-again : tie.Need-loop-again Inv-loop μ-loop
 loop-again c =
     let a = c .before .before .args in
     let l = c .before .loop in
     (omega arith, omega arith, length-set (l .sheet) (l .c) 0 ∙ l .inv .2, cleared (a .sheet .now) (l .sheet) (a .at) (l .c) (l .inv .0) (omega arith) (l .inv .3))
-
-same-length : tie.Need-same-length Inv-loop μ-loop
-same-length c = omega arith
 
 returns : tie.Need-returns Inv-loop μ-loop
 returns c =
@@ -73,9 +61,9 @@ clear-from-spec =
     μ-loop
     loop-holds
     mul-sheet
-    slice-write-sheet
-    add-c
-    loop-less
+    (λ c. omega arith)
+    (λ c. omega arith)
+    (λ c. omega arith)
     loop-again
-    same-length
+    (λ c. omega arith)
     returns)

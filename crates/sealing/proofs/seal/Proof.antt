@@ -31,12 +31,6 @@ laid B sheet e = sym (ap (λ (r : Refusal). unless r (sealedSheet B) sheet) e)
 room : (B : Book) (cells : ℕ) → Sizes B cells → length (B .bids) + length (B .capacities) ≤ cellCount
 room B cells h = omega (arith, mul-le-mul-right {n = poolLimit} (B .m) (h .counts .pools .most))
 
-judge-book-requires : tie.Need-judge-book-requires
-judge-book-requires c κs = search needs
-
-is-accepted-requires : tie.Need-is-accepted-requires
-is-accepted-requires c κs = search needs
-
 abbrev bookOf : tie.Start → Book
 bookOf s = book (s .args .n) (s .args .m) (s .args .bids .now) (s .args .capacities .now)
 
@@ -55,9 +49,6 @@ write-book-requires c κs =
     let h = accepted-sizes B _ (accepted (c .before)) in
     (h .lengths .sheet, room B _ h)
 
-same-length : tie.Need-same-length
-same-length c = search needs
-
 returns-2 : tie.Need-returns-2
 returns-2 c =
     let w = c .before .before in
@@ -69,9 +60,9 @@ pub seal-spec : {M : Type 1} → statement M
 seal-spec =
     tie.close
     (tie.spec
-    judge-book-requires
-    is-accepted-requires
+    (λ c κs. search needs)
+    (λ c κs. search needs)
     returns
     write-book-requires
-    same-length
+    (λ c. search needs)
     returns-2)

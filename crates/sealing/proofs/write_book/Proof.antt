@@ -5,21 +5,6 @@ use Rattle.sealing.proofs.Sealed.{sealed}
 use Rattle.sealing.proofs.write_book.Statement.{statement}
 use Rattle.sealing.proofs.write_book.Tie as tie
 
-write-residues-requires : tie.Need-write-residues-requires
-write-residues-requires c κs = search needs
-
-write-residues-requires-2 : tie.Need-write-residues-requires-2
-write-residues-requires-2 c κs = search needs
-
-add-clear-from : tie.Need-add-clear-from
-add-clear-from c = search needs
-
-clear-from-requires : tie.Need-clear-from-requires
-clear-from-requires c κs = search needs
-
-same-length : tie.Need-same-length
-same-length c = search needs
-
 returns : tie.Need-returns
 returns c n m =
     let third = c .before .before in
@@ -33,9 +18,9 @@ pub write-book-spec : {M : Type 1} → statement M
 write-book-spec =
     tie.close
     (tie.spec
-    write-residues-requires
-    write-residues-requires-2
-    add-clear-from
-    clear-from-requires
-    same-length
+    (λ c κs. search needs)
+    (λ c κs. search needs)
+    (λ c. search needs)
+    (λ c κs. search needs)
+    (λ c. search needs)
     returns)

@@ -10,7 +10,7 @@ use mir.Syntax.{w32}
 use borrow.Author.Needs.{scaled-fits}
 use Rattle.definitions.specs.Arithmetic.{residue}
 use Rattle.laws.specs.SignedTests.{back}
-use Rattle.laws.specs.Write.{one-more, all}
+use Rattle.laws.specs.Write.{one-more, all-written}
 use Rattle.sealing.proofs.write_residues.Statement.{statement}
 use Rattle.sealing.proofs.write_residues.Tie as tie
 
@@ -27,30 +27,12 @@ loop-holds c = let a = c .before .args in (omega arith, refl, paste-zero (a .she
 mul-number : tie.Need-mul-number Inv-loop μ-loop
 mul-number c = scaled-fits _ _ 4 (c .loop-test .taken) (c .before .before .before .good .0 .1)
 
-shared-slice-copy-out-number : tie.Need-shared-slice-copy-out-number Inv-loop μ-loop
-shared-slice-copy-out-number c = omega arith
-
-add-c : tie.Need-add-c Inv-loop μ-loop
-add-c c = omega arith
-
-residue-requires : tie.Need-residue-requires Inv-loop μ-loop
-residue-requires c κs = tt
-
 -- the cell that is written is one of those lent
 inside : (c : tie.After-residue Inv-loop μ-loop) → let s = c .before .before .before .before .before in s .args .at + c .before .before .before .loop .i < length (s .args .sheet .now)
 inside c = omega arith
 
 mul-sheet : tie.Need-mul-sheet Inv-loop μ-loop
 mul-sheet c = scaled-fits _ _ 4 (inside c) (c .before .before .before .before .before .good .1 .0 .1)
-
-slice-write-sheet : tie.Need-slice-write-sheet Inv-loop μ-loop
-slice-write-sheet c = omega arith
-
-add-i : tie.Need-add-i Inv-loop μ-loop
-add-i c = omega arith
-
-loop-less : tie.Need-loop-less Inv-loop μ-loop
-loop-less c = omega arith
 
 loop-again : tie.Need-loop-again Inv-loop μ-loop
 loop-again c =
@@ -65,14 +47,11 @@ loop-again c =
           (rw length-map (c .before .before .loop-test .taken)),
     )
 
-same-length : tie.Need-same-length Inv-loop μ-loop
-same-length c = omega arith
-
 returns : tie.Need-returns Inv-loop μ-loop
 returns c =
     let a = c .before .before .before .args in
     let l = c .before .loop in
-    all (a .sheet .now) (l .sheet) (a .at) (map residue (a .numbers .now)) (l .i) (l .inv .2) (rw length-map (omega arith))
+    all-written (a .sheet .now) (l .sheet) (a .at) (map residue (a .numbers .now)) (l .i) (l .inv .2) (rw length-map (omega arith))
 
 pub write-residues-spec : {M : Type 1} → statement M
 write-residues-spec =
@@ -82,13 +61,13 @@ write-residues-spec =
     μ-loop
     loop-holds
     mul-number
-    shared-slice-copy-out-number
-    add-c
-    residue-requires
+    (λ c. omega arith)
+    (λ c. omega arith)
+    (λ c κs. tt)
     mul-sheet
-    slice-write-sheet
-    add-i
-    loop-less
+    (λ c. omega arith)
+    (λ c. omega arith)
+    (λ c. omega arith)
     loop-again
-    same-length
+    (λ c. omega arith)
     returns)

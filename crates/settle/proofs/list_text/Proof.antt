@@ -3,15 +3,9 @@ use mathlib.Core.Path.{refl}
 use borrow.Author.Needs.{needs}
 use Rattle.text.specs.Reading.{inputFor}
 use Rattle.plan.specs.Plan.{plan}
-use Rattle.settlement.specs.Settles.{settled-first}
+use Rattle.settlement.specs.WholeText.{settled-first}
 use Rattle.settle.proofs.list_text.Statement.{statement}
 use Rattle.settle.proofs.list_text.Tie as tie
-
-slice-aggregate-settle : tie.Need-slice-aggregate-settle
-slice-aggregate-settle c = search needs
-
-settle-requires : tie.Need-settle-requires
-settle-requires c κs = search needs
 
 returns : tie.Need-returns
 returns c =
@@ -20,4 +14,4 @@ returns c =
     (settled-first plan (inputFor (a .input) (a .numbers .now)) _ _ (a .out .now) _ (e .0) (e .1 .1 .0) refl (search needs), e .1 .1 .1)
 
 pub list-text-spec : {M : Type 1} → statement M
-list-text-spec = tie.close (tie.spec slice-aggregate-settle settle-requires returns)
+list-text-spec = tie.close (tie.spec (λ c. search needs) (λ c κs. search needs) returns)

@@ -5,16 +5,10 @@ use Rattle.settle.specs.Whole.{prints-whole}
 use Rattle.settle.proofs.settled.Statement.{statement}
 use Rattle.settle.proofs.settled.Tie as tie
 
-read-text-requires : tie.Need-read-text-requires
-read-text-requires c κs = search needs
-
-list-text-requires : tie.Need-list-text-requires
-list-text-requires c κs = search needs
-
 returns : tie.Need-returns
 returns c =
     let e = c .list-text .ensures in
     (prints-whole _ _ _ _ refl (c .before .before .before .read-text .ensures) (e .0), e .1)
 
 pub settled-spec : {M : Type 1} → statement M
-settled-spec = tie.close (tie.spec read-text-requires list-text-requires returns)
+settled-spec = tie.close (tie.spec (λ c κs. search needs) (λ c κs. search needs) returns)

@@ -14,7 +14,7 @@ use mir.Facts.{toZ-ofZ}
 use borrow.Author.Needs.{needs}
 use borrow.Author.Tests.{ltb-true}
 use Rattle.io.specs.Counts.{clamped}
-use Rattle.text.specs.Reading.{Reading, reading, fed}
+use Rattle.text.specs.Reading.{Reading, readSoFar, fed}
 use Rattle.settle.specs.declared.Turn.the-variants.{More, Over}
 use Rattle.settle.specs.Turns.{leftBy, brokenOff, textOver, textOnward, turned}
 use Rattle.settle.proofs.take_turn.Statement.{statement}
@@ -48,14 +48,11 @@ onward s (pos (suc k)) piece e n = ap (λ (l : List ℕ). textOnward (fed s l)) 
 
 -- what was read so far
 abbrev soFar : tie.Start → Reading
-soFar s = reading (s .args .reader) (s .args .numbers .now)
+soFar s = readSoFar (s .args .reader) (s .args .numbers .now)
 
 -- a test of what the read answered, read back from its bits
 answer : (s : tie.Start) {t : Bool} → ltZ (toZ w64 (ofZ w64 (s .args .got))) (pos 0) ≡ t → ltZ (s .args .got) (pos 0) ≡ t
 answer s e = ap (λ (z : ℤ). ltZ z (pos 0)) (sym (toZ-ofZ (s .fits .got))) ∙ e
-
-break-off-requires : tie.Need-break-off-requires
-break-off-requires c κs = search needs
 
 returns : tie.Need-returns
 returns c =
@@ -63,24 +60,12 @@ returns c =
     let s = t .before .before in
     rw (failed (soFar s) (s .args .got) (s .args .piece .now) (answer s (t .if1 .taken))) (ap Over (c .break-off .ensures .0), c .break-off .ensures .1)
 
-finish-requires : tie.Need-finish-requires
-finish-requires c κs = search needs
-
 returns-2 : tie.Need-returns-2
 returns-2 c =
     let t = c .before .before in
     let s = t .before .before .before in
     let zero-got = sym (toZ-ofZ (s .fits .got)) ∙ ap (toZ w64) (t .if2 .taken) in
     rw (ended (soFar s) (s .args .got) (s .args .piece .now) zero-got) (ap Over (c .finish .ensures .0), c .finish .ensures .1)
-
-count-requires : tie.Need-count-requires
-count-requires c κs = search needs
-
-slice-aggregate-feed : tie.Need-slice-aggregate-feed
-slice-aggregate-feed c = search needs
-
-feed-requires : tie.Need-feed-requires
-feed-requires c κs = search needs
 
 returns-3 : tie.Need-returns-3
 returns-3 c =
@@ -95,11 +80,11 @@ pub take-turn-spec : {M : Type 1} → statement M
 take-turn-spec =
     tie.close
     (tie.spec
-    break-off-requires
+    (λ c κs. search needs)
     returns
-    finish-requires
+    (λ c κs. search needs)
     returns-2
-    count-requires
-    slice-aggregate-feed
-    feed-requires
+    (λ c κs. search needs)
+    (λ c. search needs)
+    (λ c κs. search needs)
     returns-3)

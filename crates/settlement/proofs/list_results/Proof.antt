@@ -7,18 +7,6 @@ use Rattle.settlement.proofs.Listed.{opened, listed-size, listed-slice}
 use Rattle.settlement.proofs.list_results.Statement.{statement}
 use Rattle.settlement.proofs.list_results.Tie as tie
 
-open-requires : tie.Need-open-requires
-open-requires c κs = search needs
-
-write-listing-requires : tie.Need-write-listing-requires
-write-listing-requires c κs = search needs
-
-same-length : tie.Need-same-length
-same-length c = search needs
-
-same-length-2 : tie.Need-same-length-2
-same-length-2 c = search needs
-
 returns : tie.Need-returns
 returns c =
     let w = c .before .before .write-listing in
@@ -37,4 +25,4 @@ returns c =
 
 pub list-results-spec : {M : Type 1} → statement M
 list-results-spec =
-    tie.close (tie.spec open-requires write-listing-requires same-length same-length-2 returns)
+    tie.close (tie.spec (λ c κs. search needs) (λ c κs. search needs) (λ c. search needs) (λ c. search needs) returns)

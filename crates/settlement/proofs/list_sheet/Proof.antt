@@ -46,9 +46,6 @@ list-results-requires c κs =
     let s = c .before .before .before .before in
     ap (openRefusal (s .args .n) (s .args .m) (s .args .sheet .now)) (length-take-le _ _ (few-results s)) ∙ s .pre
 
-same-length : tie.Need-same-length
-same-length c = search needs
-
 returns : tie.Need-returns
 returns c =
     let l = c .before .before .before in
@@ -71,5 +68,5 @@ list-sheet-spec =
     array-borrow-prefix-results
     slice-aggregate-list-results
     list-results-requires
-    same-length
+    (λ c. search needs)
     returns)

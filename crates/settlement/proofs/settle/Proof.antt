@@ -10,27 +10,6 @@ use Rattle.settlement.proofs.Texts.{size-of, slice-of, same-size, same-
 use Rattle.settlement.proofs.settle.Statement.{statement}
 use Rattle.settlement.proofs.settle.Tie as tie
 
-enum-told : tie.Need-enum-told
-enum-told c = search needs
-
-write-unreadable-requires : tie.Need-write-unreadable-requires
-write-unreadable-requires c κs = search needs
-
-enum-known-input : tie.Need-enum-known-input
-enum-known-input c = search needs
-
-write-verdict-requires : tie.Need-write-verdict-requires
-write-verdict-requires c κs = search needs
-
-enum-known-input-2 : tie.Need-enum-known-input-2
-enum-known-input-2 c = search needs
-
-settle-tables-requires : tie.Need-settle-tables-requires
-settle-tables-requires c κs = search needs
-
-same-length : tie.Need-same-length
-same-length c = search needs
-
 returns : tie.Need-returns
 unfolding unreadableSize unreadableSlice
 returns c =
@@ -42,9 +21,6 @@ returns c =
       (refl, w .ensures .1 ∙ slice-of unreadable (length (a .sheet .now)) unreadableText (a .out .now) refl),
     ))
 
-same-length-2 : tie.Need-same-length-2
-same-length-2 c = search needs
-
 returns-2 : tie.Need-returns-2
 returns-2 c =
     let w = c .before .before .write-verdict in
@@ -55,12 +31,6 @@ returns-2 c =
       w .ensures .0 ∙ same-size text 0 text (length (a .sheet .now)) (a .out .now) refl,
       (refl, w .ensures .1 ∙ same-slice text 0 text (length (a .sheet .now)) (a .out .now) refl),
     ))
-
-same-length-3 : tie.Need-same-length-3
-same-length-3 c = search needs
-
-same-length-4 : tie.Need-same-length-4
-same-length-4 c = search needs
 
 returns-3 : tie.Need-returns-3
 returns-3 c =
@@ -74,16 +44,16 @@ pub settle-spec : {M : Type 1} → statement M
 settle-spec =
     tie.close
     (tie.spec
-    enum-told
-    write-unreadable-requires
-    enum-known-input
-    write-verdict-requires
-    enum-known-input-2
-    settle-tables-requires
-    same-length
+    (λ c. search needs)
+    (λ c κs. search needs)
+    (λ c. search needs)
+    (λ c κs. search needs)
+    (λ c. search needs)
+    (λ c κs. search needs)
+    (λ c. search needs)
     returns
-    same-length-2
+    (λ c. search needs)
     returns-2
-    same-length-3
-    same-length-4
+    (λ c. search needs)
+    (λ c. search needs)
     returns-3)

@@ -29,21 +29,6 @@ returns c =
     let s = c .before .before .before in
     no-room (bookAt s) (length (s .args .sheet .now)) (s .args .sheet .now) (s .args .out .now) (omega (arith, c .if1 .taken))
 
-clear-requires : tie.Need-clear-requires
-clear-requires c κs = search needs
-
-is-accepted-requires : tie.Need-is-accepted-requires
-is-accepted-requires c κs = search needs
-
-write-verdict-requires : tie.Need-write-verdict-requires
-write-verdict-requires c κs = search needs
-
-same-length : tie.Need-same-length
-same-length c = search needs
-
-same-length-2 : tie.Need-same-length-2
-same-length-2 c = search needs
-
 returns-2 : tie.Need-returns-2
 returns-2 c =
     let t = c .before .before .before .before in
@@ -71,12 +56,6 @@ list-sheet-requires c κs =
     let s = cleared .before .before .before .before .before in
     opens (bookAt s) (s .args .sheet .now) _ (accepted e) (cleared .clear .ensures .1 .1 .1)
 
-same-length-3 : tie.Need-same-length-3
-same-length-3 c = search needs
-
-same-length-4 : tie.Need-same-length-4
-same-length-4 c = search needs
-
 returns-3 : tie.Need-returns-3
 returns-3 c =
     let l = c .before .before in
@@ -96,13 +75,13 @@ settle-book-spec =
     tie.close
     (tie.spec
     returns
-    clear-requires
-    is-accepted-requires
-    write-verdict-requires
-    same-length
-    same-length-2
+    (λ c κs. search needs)
+    (λ c κs. search needs)
+    (λ c κs. search needs)
+    (λ c. search needs)
+    (λ c. search needs)
     returns-2
     list-sheet-requires
-    same-length-3
-    same-length-4
+    (λ c. search needs)
+    (λ c. search needs)
     returns-3)

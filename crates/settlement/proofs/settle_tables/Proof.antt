@@ -13,7 +13,7 @@ use Rattle.definitions.specs.Calls.{countsRefusal, sealRefusal}
 use Rattle.definitions.specs.Settle.{readable, refused}
 use Rattle.laws.specs.Search.{turned-away, let-through}
 use Rattle.laws.specs.Sizes.{counted}
-use Rattle.text.specs.Reading.{numberLimit}
+use Rattle.text.specs.Reading.{tableNumbers}
 use Rattle.text.specs.Stages.{called, called-fits}
 use Rattle.plan.specs.Plan.{plan}
 use Rattle.settlement.specs.Settled.{settledSize, settledSlice, settledSheet}
@@ -29,18 +29,6 @@ bookOf s k =
 
 abbrev bookAt : tie.Start → Book
 bookAt s = bookOf s (s .args .m * s .args .m)
-
-judge-counts-requires : tie.Need-judge-counts-requires
-judge-counts-requires c κs = search needs
-
-is-accepted-requires : tie.Need-is-accepted-requires
-is-accepted-requires c κs = search needs
-
-write-verdict-requires : tie.Need-write-verdict-requires
-write-verdict-requires c κs = search needs
-
-same-length : tie.Need-same-length
-same-length c = search needs
 
 returns : tie.Need-returns
 returns c =
@@ -61,7 +49,7 @@ returns c =
     )
 
 -- the counts pass, so that no more numbers are called for than there are
-enough : (c : tie.Else1) → let a = c .before .before .before .before .before .args in called (a .n) (a .m) ≤ numberLimit
+enough : (c : tie.Else1) → let a = c .before .before .before .before .before .args in called (a .n) (a .m) ≤ tableNumbers
 enough c =
     let judged = c .before .before in
     let a = judged .before .before .before .args in
@@ -85,23 +73,8 @@ slice-aggregate-settle-book c =
 mul-settle-book : tie.Need-mul-settle-book
 mul-settle-book c = omega (arith, enough (c .before))
 
-sub-settle-book : tie.Need-sub-settle-book
-sub-settle-book c = search needs
-
-part-settle-book-start : tie.Need-part-settle-book-start
-part-settle-book-start c = search needs
-
 part-settle-book-end : tie.Need-part-settle-book-end
 part-settle-book-end c = omega (arith, enough (c .before), c .before .before .before .before .before .before .pre)
-
-settle-book-requires : tie.Need-settle-book-requires
-settle-book-requires c κs = search needs
-
-same-length-2 : tie.Need-same-length-2
-same-length-2 c = search needs
-
-same-length-3 : tie.Need-same-length-3
-same-length-3 c = search needs
 
 returns-2 : tie.Need-returns-2
 returns-2 c =
@@ -120,20 +93,20 @@ pub settle-tables-spec : {M : Type 1} → statement M
 settle-tables-spec =
     tie.close
     (tie.spec
-    judge-counts-requires
-    is-accepted-requires
-    write-verdict-requires
-    same-length
+    (λ c κs. search needs)
+    (λ c κs. search needs)
+    (λ c κs. search needs)
+    (λ c. search needs)
     returns
     mul-bids
     mul-all
     add-all
     slice-aggregate-settle-book
     mul-settle-book
-    sub-settle-book
-    part-settle-book-start
+    (λ c. search needs)
+    (λ c. search needs)
     part-settle-book-end
-    settle-book-requires
-    same-length-2
-    same-length-3
+    (λ c κs. search needs)
+    (λ c. search needs)
+    (λ c. search needs)
     returns-2)

@@ -6,21 +6,9 @@ use borrow.Author.Needs.{needs}
 use Rattle.definitions.specs.Settle.{Input, settleInput, settleText}
 use Rattle.plan.specs.Plan.{plan}
 use Rattle.settlement.specs.Settled.{settledSize, settledSlice, settledSheet}
-use Rattle.settlement.specs.Settles.{settled-over}
+use Rattle.settlement.specs.WholeText.{settled-over}
 use Rattle.settlement.proofs.settle_text.Statement.{statement}
 use Rattle.settlement.proofs.settle_text.Tie as tie
-
-read-requires : tie.Need-read-requires
-read-requires c κs = search needs
-
-settle-requires : tie.Need-settle-requires
-settle-requires c κs = search needs
-
-same-length : tie.Need-same-length
-same-length c = search needs
-
-same-length-2 : tie.Need-same-length-2
-same-length-2 c = search needs
 
 returns : tie.Need-returns
 unfolding settleText
@@ -42,4 +30,4 @@ returns c =
 
 pub settle-text-spec : {M : Type 1} → statement M
 settle-text-spec =
-    tie.close (tie.spec read-requires settle-requires same-length same-length-2 returns)
+    tie.close (tie.spec (λ c κs. search needs) (λ c κs. search needs) (λ c. search needs) (λ c. search needs) returns)

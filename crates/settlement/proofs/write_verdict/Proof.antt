@@ -6,18 +6,6 @@ use Rattle.settlement.proofs.Texts.{verdict-size, verdict-slice}
 use Rattle.settlement.proofs.write_verdict.Statement.{statement}
 use Rattle.settlement.proofs.write_verdict.Tie as tie
 
-number-requires : tie.Need-number-requires
-number-requires c κs = search needs
-
-place-requires : tie.Need-place-requires
-place-requires c κs = search needs
-
-write-refused-requires : tie.Need-write-refused-requires
-write-refused-requires c κs = search needs
-
-same-length : tie.Need-same-length
-same-length c = search needs
-
 returns : tie.Need-returns
 returns c =
     let w = c .before .before .write-refused in
@@ -29,4 +17,4 @@ returns c =
 
 pub write-verdict-spec : {M : Type 1} → statement M
 write-verdict-spec =
-    tie.close (tie.spec number-requires place-requires write-refused-requires same-length returns)
+    tie.close (tie.spec (λ c κs. search needs) (λ c κs. search needs) (λ c κs. search needs) (λ c. search needs) returns)

@@ -7,27 +7,18 @@ use borrow.Author.Needs.{needs}
 use Rattle.definitions.specs.Settle.{settleInput}
 use Rattle.text.specs.declared.Input.{Input}
 use Rattle.text.specs.declared.Reader.{Reader}
-use Rattle.text.specs.Reading.{Reading, reading, startReader, wordEnded, fed, answerOf, inputFor}
+use Rattle.text.specs.Reading.{Reading, readSoFar, startReader, wordEnded, fed, stageInput, inputFor}
 use Rattle.text.specs.Texts.{noneStored, wholeRead, reads}
 use Rattle.text.proofs.read.Statement.{statement}
 use Rattle.text.proofs.read.Tie as tie
 
-start-requires : tie.Need-start-requires
-start-requires c κs = search needs
-
-feed-requires : tie.Need-feed-requires
-feed-requires c κs = search needs
-
-finish-requires : tie.Need-finish-requires
-finish-requires c κs = search needs
-
 -- what the three calls leave, one after another: the first of them with nothing stored, the last on the reader that was fed
 called : (before fedNumbers left : List ℤ) (text : List ℕ) (first next last : Reader) (input : Input) → before ≡ noneStored → last ≡ next
-    → first ≡ startReader → (next ≡ fed (reading first before) text .reader) × (fedNumbers ≡ fed (reading first before) text .numbers)
-    → (input ≡ answerOf (wordEnded (reading last fedNumbers) .reader .stage)) × (left ≡ wordEnded (reading last fedNumbers) .numbers)
+    → first ≡ startReader → (next ≡ fed (readSoFar first before) text .reader) × (fedNumbers ≡ fed (readSoFar first before) text .numbers)
+    → (input ≡ stageInput (wordEnded (readSoFar last fedNumbers) .reader .stage)) × (left ≡ wordEnded (readSoFar last fedNumbers) .numbers)
     → (inputFor input left ≡ settleInput text) × (left ≡ wholeRead noneStored text .numbers)
 called before fedNumbers left text first next last input nothing fed-one s f e =
-    let same : reading last fedNumbers ≡ fed (reading startReader noneStored) text = rw (fed-one, f .0, f .1, s, nothing) refl in
+    let same : readSoFar last fedNumbers ≡ fed (readSoFar startReader noneStored) text = rw (fed-one, f .0, f .1, s, nothing) refl in
     let stored : left ≡ wholeRead noneStored text .numbers = e .1 ∙ ap (λ (r : Reading). wordEnded r .numbers) same in
     (rw (e .0, stored, same) (reads noneStored text refl), stored)
 
@@ -38,4 +29,4 @@ returns c =
     called _ _ _ (a .text .now) _ _ _ _ refl refl (f .before .before .start .ensures) (f .feed .ensures) (c .finish .ensures)
 
 pub read-spec : {M : Type 1} → statement M
-read-spec = tie.close (tie.spec start-requires feed-requires finish-requires returns)
+read-spec = tie.close (tie.spec (λ c κs. search needs) (λ c κs. search needs) (λ c κs. search needs) returns)

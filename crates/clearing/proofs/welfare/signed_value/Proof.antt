@@ -45,9 +45,6 @@ negated c = ap (λ (z : ℤ). pos 0 -ℤ z) (read-back c) ∙ +ℤ-idl (negℤ (
 cast-value : tie.Need-cast-value
 cast-value c = subst (SFits w64) (sym (toZ-ofZ (c .fits .price))) (sfits-widen tt (c .fits .price))
 
-cast-value-2 : tie.Need-cast-value-2
-cast-value-2 c = search needs
-
 mul-value : tie.Need-mul-value
 mul-value c = subst (SFits w64) (sym (product c)) (fits c)
 
@@ -65,4 +62,4 @@ returns-2 c =
 
 pub signed-value-spec : {M : Type 1} → statement M
 signed-value-spec =
-    tie.close (tie.spec cast-value cast-value-2 mul-value returns sub-result returns-2)
+    tie.close (tie.spec cast-value (λ c. search needs) mul-value returns sub-result returns-2)

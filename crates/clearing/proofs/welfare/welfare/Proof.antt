@@ -36,30 +36,15 @@ abbrev μ-loop : tie.MeasureT-loop
 loop-holds : tie.Need-loop-holds Inv-loop μ-loop
 loop-holds c = (omega arith, sym (sum-none _))
 
-mul-at : tie.Need-mul-at Inv-loop μ-loop
-mul-at c = omega arith
-
-add-price : tie.Need-add-price Inv-loop μ-loop
-add-price c = omega arith
-
-shared-slice-copy-out-price : tie.Need-shared-slice-copy-out-price Inv-loop μ-loop
-shared-slice-copy-out-price c = omega arith
-
 mul-price : tie.Need-mul-price Inv-loop μ-loop
 mul-price c =
     let s = c .before .before .before in
     scaled-fits _ (length (s .args .bids .now)) 4 (omega arith) (s .good .0 .1)
 
-add-quantity : tie.Need-add-quantity Inv-loop μ-loop
-add-quantity c = omega arith
-
 mul-quantity : tie.Need-mul-quantity Inv-loop μ-loop
 mul-quantity c =
     let s = c .before .before .before .before in
     scaled-fits _ (length (s .args .bids .now)) 4 (omega arith) (s .good .0 .1)
-
-shared-slice-copy-out-quantity : tie.Need-shared-slice-copy-out-quantity Inv-loop μ-loop
-shared-slice-copy-out-quantity c = omega arith
 
 mul-x : tie.Need-mul-x Inv-loop μ-loop
 mul-x c = scaled-fits _ _ 4 (c .before .before .loop-test .taken) (c .before .before .before .before .before .good .1 .0 .1)
@@ -109,12 +94,6 @@ fitting c =
 add-total : tie.Need-add-total Inv-loop μ-loop
 add-total c = subst (SFits w64) (sym (onward c)) (fitting c)
 
-add-i : tie.Need-add-i Inv-loop μ-loop
-add-i c = omega arith
-
-loop-less : tie.Need-loop-less Inv-loop μ-loop
-loop-less c = omega arith
-
 loop-again : tie.Need-loop-again Inv-loop μ-loop
 loop-again c = (omega arith, ap (λ (z : ℤ). toZ w64 (ofZ w64 z)) (onward c) ∙ toZ-ofZ (fitting c))
 
@@ -135,18 +114,18 @@ welfare-spec =
     Inv-loop
     μ-loop
     loop-holds
-    mul-at
-    add-price
+    (λ c. omega arith)
+    (λ c. omega arith)
     mul-price
-    shared-slice-copy-out-price
-    add-quantity
+    (λ c. omega arith)
+    (λ c. omega arith)
     mul-quantity
-    shared-slice-copy-out-quantity
+    (λ c. omega arith)
     mul-x
     shared-slice-read-x
     signed-value-requires
     add-total
-    add-i
-    loop-less
+    (λ c. omega arith)
+    (λ c. omega arith)
     loop-again
     returns)

@@ -10,7 +10,7 @@ use Rattle.laws.specs.Search.{turned-away, let-through}
 use Rattle.laws.specs.Sizes.{counted}
 use Rattle.plan.specs.Plan.{plan}
 use Rattle.plan.specs.Asking.{asked-before-end, total-accepted}
-use Rattle.plan.specs.List.{total-limit}
+use Rattle.plan.specs.PlanOrders.{total-limit}
 use Rattle.orders.proofs.Answers.{asked-refused, counts-none, asked-from-end}
 use Rattle.orders.proofs.Position.ask.Statement.{statement}
 use Rattle.orders.proofs.Position.ask.Tie as tie

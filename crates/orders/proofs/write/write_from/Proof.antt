@@ -16,7 +16,7 @@ use Rattle.codec.specs.Writes.{size-with-room, bytes-with-room, bytes-without-r
 use Rattle.plan.specs.Phased.{Has, has-here}
 use Rattle.plan.specs.Table.{table, table-length}
 use Rattle.plan.specs.Plan.{plan}
-use Rattle.plan.specs.List.{length-limit}
+use Rattle.plan.specs.PlanOrders.{length-limit}
 use Rattle.orders.specs.Steps.{IsWithin, PhasesPassed, phases-none, plan-at, next-passed}
 use Rattle.orders.proofs.Filling.{Filled, begins, goes-on, at-end, no-room, ends, had-room}
 use Rattle.orders.proofs.write.write_from.Statement.{statement}

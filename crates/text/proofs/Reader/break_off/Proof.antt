@@ -4,19 +4,10 @@ use borrow.Author.Needs.{needs}
 use Rattle.text.proofs.Reader.break_off.Statement.{statement}
 use Rattle.text.proofs.Reader.break_off.Tie as tie
 
-slice-aggregate-feed : tie.Need-slice-aggregate-feed
-slice-aggregate-feed c = search needs
-
-feed-requires : tie.Need-feed-requires
-feed-requires c κs = search needs
-
-finish-requires : tie.Need-finish-requires
-finish-requires c κs = search needs
-
 returns : tie.Need-returns
 returns c =
     let f = c .before .before .feed .ensures in
     (c .finish .ensures .0 ∙ rw (f .0, f .1) refl, c .finish .ensures .1 ∙ rw (f .0, f .1) refl)
 
 pub break-off-spec : {M : Type 1} → statement M
-break-off-spec = tie.close (tie.spec slice-aggregate-feed feed-requires finish-requires returns)
+break-off-spec = tie.close (tie.spec (λ c. search needs) (λ c κs. search needs) (λ c κs. search needs) returns)

@@ -5,18 +5,6 @@ use Rattle.text.specs.Reading.{wordEnded}
 use Rattle.text.proofs.Reader.end_word.Statement.{statement}
 use Rattle.text.proofs.Reader.end_word.Tie as tie
 
-end-requires : tie.Need-end-requires
-end-requires c κs = search needs
-
-place-requires : tie.Need-place-requires
-place-requires c κs = search needs
-
-store-requires : tie.Need-store-requires
-store-requires c κs = search needs
-
-take-word-requires : tie.Need-take-word-requires
-take-word-requires c κs = search needs
-
 returns : tie.Need-returns
 unfolding wordEnded
 returns c =
@@ -25,4 +13,4 @@ returns c =
 
 pub end-word-spec : {M : Type 1} → statement M
 end-word-spec =
-    tie.close (tie.spec end-requires place-requires store-requires take-word-requires returns)
+    tie.close (tie.spec (λ c κs. search needs) (λ c κs. search needs) (λ c κs. search needs) (λ c κs. search needs) returns)

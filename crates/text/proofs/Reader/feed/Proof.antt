@@ -6,45 +6,30 @@ use native.Mathlib.Omega.{arith}
 use lib.ListN.{length, drop}
 use borrow.Author.Needs.{needs}
 use Rattle.text.specs.Steps.{fed-on, fed-all}
-use Rattle.text.specs.Reading.{Reading, reading, fed}
+use Rattle.text.specs.Reading.{Reading, readSoFar, fed}
 use Rattle.text.proofs.Reader.feed.Statement.{statement}
 use Rattle.text.proofs.Reader.feed.Tie as tie
 
 abbrev Inv-loop : tie.InvT-loop
 Inv-loop bytes numbers₀ reader₀ i₀ numbers reader i =
-    (i ≤ length bytes) × (fed (reading reader numbers) (drop i bytes) ≡ fed (reading reader₀ numbers₀) bytes)
+    (i ≤ length bytes) × (fed (readSoFar reader numbers) (drop i bytes) ≡ fed (readSoFar reader₀ numbers₀) bytes)
 
 abbrev μ-loop : tie.MeasureT-loop
 μ-loop bytes numbers₀ reader₀ i₀ numbers reader i = length bytes - i
-
-loop-holds : tie.Need-loop-holds Inv-loop μ-loop
-loop-holds c = search needs
-
-shared-slice-read-step : tie.Need-shared-slice-read-step Inv-loop μ-loop
-shared-slice-read-step c = omega arith
-
-step-requires : tie.Need-step-requires Inv-loop μ-loop
-step-requires c κs = search needs
-
-add-i : tie.Need-add-i Inv-loop μ-loop
-add-i c = omega arith
-
-loop-less : tie.Need-loop-less Inv-loop μ-loop
-loop-less c = omega arith
 
 loop-again : tie.Need-loop-again Inv-loop μ-loop
 loop-again c =
     let l = c .before .before .before .before .loop in
     let bytes = c .before .before .before .before .before .before .args .bytes .now in (
       omega arith,
-      fed-on (reading (l .reader) (l .numbers)) bytes (l .i) _ _ (omega arith) (c .step .ensures .0) (c .step .ensures .1)
+      fed-on (readSoFar (l .reader) (l .numbers)) bytes (l .i) _ _ (omega arith) (c .step .ensures .0) (c .step .ensures .1)
           ∙ l .inv .1,
     )
 
 returns : tie.Need-returns Inv-loop μ-loop
 returns c =
     let l = c .before .loop in
-    let e = fed-all (reading (l .reader) (l .numbers)) (c .before .before .before .args .bytes .now) (l .i) (omega arith) ∙ l .inv .1 in
+    let e = fed-all (readSoFar (l .reader) (l .numbers)) (c .before .before .before .args .bytes .now) (l .i) (omega arith) ∙ l .inv .1 in
     (ap (λ (s : Reading). s .reader) e, ap (λ (s : Reading). s .numbers) e)
 
 pub feed-spec : {M : Type 1} → statement M
@@ -53,10 +38,10 @@ feed-spec =
     (tie.spec
     Inv-loop
     μ-loop
-    loop-holds
-    shared-slice-read-step
-    step-requires
-    add-i
-    loop-less
+    (λ c. search needs)
+    (λ c. omega arith)
+    (λ c κs. search needs)
+    (λ c. omega arith)
+    (λ c. omega arith)
     loop-again
     returns)

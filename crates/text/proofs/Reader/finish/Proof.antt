@@ -2,18 +2,12 @@
 use mathlib.Core.Path.{ap, _∙_}
 use borrow.Author.Needs.{needs}
 use Rattle.text.specs.declared.Reader.{Reader}
-use Rattle.text.specs.Reading.{answerOf}
+use Rattle.text.specs.Reading.{stageInput}
 use Rattle.text.proofs.Reader.finish.Statement.{statement}
 use Rattle.text.proofs.Reader.finish.Tie as tie
 
-end-word-requires : tie.Need-end-word-requires
-end-word-requires c κs = search needs
-
-answer-requires : tie.Need-answer-requires
-answer-requires c κs = search needs
-
 returns : tie.Need-returns
-returns c = (c .answer .ensures ∙ ap (λ (r : Reader). answerOf (r .stage)) (c .before .end-word .ensures .0), c .before .end-word .ensures .1)
+returns c = (c .answer .ensures ∙ ap (λ (r : Reader). stageInput (r .stage)) (c .before .end-word .ensures .0), c .before .end-word .ensures .1)
 
 pub finish-spec : {M : Type 1} → statement M
-finish-spec = tie.close (tie.spec end-word-requires answer-requires returns)
+finish-spec = tie.close (tie.spec (λ c κs. search needs) (λ c κs. search needs) returns)
