@@ -102,22 +102,27 @@ pub fn print_signed(name: &[u8], v: i64) {
     write_line(&out, end);
 }
 
-pub fn print_number(name: &[u8], v: usize) {
+// A name and numbers, each behind a space.
+pub fn print_numbers(name: &[u8], numbers: &[usize]) {
     let mut out = [0u8; Line::ROOM];
-    let space = put_text(&mut out, 0, name);
-    let digits = put_byte(&mut out, space, b' ');
-    let end = put_number(&mut out, digits, v);
+    let mut end = put_text(&mut out, 0, name);
+    let mut i = 0;
+    while i < numbers.len() {
+        let after = put_byte(&mut out, end, b' ');
+        end = put_number(&mut out, after, numbers[i]);
+        i += 1;
+    }
     write_line(&out, end);
 }
 
+pub fn print_number(name: &[u8], v: usize) {
+    let numbers = [v];
+    print_numbers(name, &numbers);
+}
+
 pub fn print_pair(name: &[u8], a: usize, b: usize) {
-    let mut out = [0u8; Line::ROOM];
-    let space = put_text(&mut out, 0, name);
-    let first = put_byte(&mut out, space, b' ');
-    let between = put_number(&mut out, first, a);
-    let second = put_byte(&mut out, between, b' ');
-    let end = put_number(&mut out, second, b);
-    write_line(&out, end);
+    let numbers = [a, b];
+    print_numbers(name, &numbers);
 }
 
 // `accepted`, or `refused` with number and place.
