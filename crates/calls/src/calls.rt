@@ -55,6 +55,20 @@ impl Call {
     pub const WRITE: usize = 8;
 }
 
+// ---- What several calls print
+
+fn print_orders(orders: usize) {
+    print_number(b"orders", orders);
+}
+
+fn print_next(position: usize) {
+    print_number(b"next", position);
+}
+
+fn print_sheet(sheet: &[u32]) {
+    print_words(b"sheet", sheet);
+}
+
 // ---- A bid alone: m and the bid's numbers
 
 pub fn call_bid(input: &[u8]) -> bool {
@@ -70,16 +84,16 @@ pub fn call_bid(input: &[u8]) -> bool {
 
 fn call_seal(n: usize, m: usize, bids: &[i32], capacities: &[i32], sheet: &mut [u32]) {
     print_verdict(seal(n, m, bids, capacities, sheet));
-    print_words(b"sheet", sheet);
+    print_sheet(sheet);
 }
 
 fn call_clear(n: usize, m: usize, bids: &[i32], capacities: &[i32], sheet: &mut [u32]) {
     let cleared = clear(n, m, bids, capacities, sheet);
     let verdict = cleared.verdict;
     print_verdict(verdict);
-    print_number(b"orders", cleared.orders);
+    print_orders(cleared.orders);
     print_signed(b"welfare", cleared.welfare);
-    print_words(b"sheet", sheet);
+    print_sheet(sheet);
 }
 
 fn lend_book(input: &[u8], bids: &mut [i32], capacities: &mut [i32], sheet: &mut [u32]) {
@@ -140,8 +154,8 @@ fn lend_bytes(input: &[u8], sheet: &mut [u32], bytes: &mut [u8]) {
     let ran = run(sheet, bytes);
     let verdict = ran.verdict;
     print_verdict(verdict);
-    print_number(b"orders", ran.orders);
-    print_words(b"sheet", sheet);
+    print_orders(ran.orders);
+    print_sheet(sheet);
 }
 
 pub fn call_run(input: &[u8]) -> bool {
@@ -183,7 +197,7 @@ pub fn call_ask(input: &[u8]) -> bool {
         Asked::Order(order, next) => {
             print_verdict(Verdict::Accepted);
             print_order(order);
-            print_number(b"next", next.at);
+            print_next(next.at);
         }
         Asked::Ended => {
             print_verdict(Verdict::Accepted);
@@ -203,7 +217,7 @@ pub fn call_total(input: &[u8]) -> bool {
     let total = Plan::total(number(input, 1), number(input, 2));
     let verdict = total.verdict;
     print_verdict(verdict);
-    print_number(b"orders", total.orders);
+    print_orders(total.orders);
     true
 }
 
@@ -215,8 +229,8 @@ fn lend_slice(input: &[u8], slice: &mut [u8]) {
     let verdict = written.verdict;
     print_verdict(verdict);
     print_number(b"bytes", written.bytes);
-    print_number(b"orders", written.orders);
-    print_number(b"next", written.next);
+    print_orders(written.orders);
+    print_next(written.next);
     print_bytes(b"slice", slice);
 }
 
