@@ -8,13 +8,12 @@ use crate::calls::call_open;
 use crate::calls::call_run;
 use crate::calls::call_total;
 use crate::calls::call_write;
-use crate::words::Words;
-use crate::words::number;
 use libc::STDIN_FILENO;
 use libc::STDOUT_FILENO;
+use words::Words;
+use words::number;
 
 mod calls;
-mod words;
 
 // Makes the call that word 0 names, and says whether the input is readable.
 fn call(input: &[u8]) -> bool {

@@ -15,6 +15,9 @@ returns c = search needs
 after-slice-requires : tie.Need-after-slice-requires
 after-slice-requires c κs = search needs
 
+after-slice-requires-2 : tie.Need-after-slice-requires-2
+after-slice-requires-2 c κs = search needs
+
 room-for-signed-requires : tie.Need-room-for-signed-requires
 room-for-signed-requires c κs = search needs
 
@@ -29,9 +32,6 @@ slice-length-requires c κs = search needs
 
 slice-length-requires-2 : tie.Need-slice-length-requires-2
 slice-length-requires-2 c κs = search needs
-
-after-slice-requires-2 : tie.Need-after-slice-requires-2
-after-slice-requires-2 c κs = search needs
 
 slice-length-requires-3 : tie.Need-slice-length-requires-3
 slice-length-requires-3 c κs = search needs
@@ -67,12 +67,12 @@ call-book-spec =
     is-call-requires
     returns
     after-slice-requires
+    after-slice-requires-2
     room-for-signed-requires
     room-for-signed-requires-2
     room-for-words-requires
     slice-length-requires
     slice-length-requires-2
-    after-slice-requires-2
     slice-length-requires-3
     array-borrow-prefix-bids
     slice-aggregate-lend-book

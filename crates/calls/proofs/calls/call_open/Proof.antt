@@ -12,6 +12,9 @@ is-call-requires c κs = search needs
 returns : tie.Need-returns
 returns c = search needs
 
+after-slice-requires : tie.Need-after-slice-requires
+after-slice-requires c κs = search needs
+
 room-for-words-requires : tie.Need-room-for-words-requires
 room-for-words-requires c κs = search needs
 
@@ -20,9 +23,6 @@ room-for-signed-requires c κs = search needs
 
 slice-length-requires : tie.Need-slice-length-requires
 slice-length-requires c κs = search needs
-
-after-slice-requires : tie.Need-after-slice-requires
-after-slice-requires c κs = search needs
 
 slice-length-requires-2 : tie.Need-slice-length-requires-2
 slice-length-requires-2 c κs = search needs
@@ -51,10 +51,10 @@ call-open-spec =
     (tie.spec
     is-call-requires
     returns
+    after-slice-requires
     room-for-words-requires
     room-for-signed-requires
     slice-length-requires
-    after-slice-requires
     slice-length-requires-2
     array-borrow-prefix-sheet
     slice-aggregate-lend-results
