@@ -3,10 +3,9 @@
 SETTLE is the program. Sound books of every n and m, faulty books, damaged texts and the texts at the edges of what is readable are run through it,
 and its whole output is checked: amounts, flows, prices, welfare, refusals."""
 import collections
-import random
 import subprocess
-import sys
 
+import arguments
 import books
 import solver
 import text
@@ -78,9 +77,7 @@ def texts(draw, count):
 
 
 def main():
-    program = sys.argv[1]
-    count = int(sys.argv[2]) if len(sys.argv) > 2 else 2000
-    draw = random.Random(int(sys.argv[3]) if len(sys.argv) > 3 else 1)
+    program, count, draw = arguments.taken(1, 2000)
     tried = 0
     for data in texts(draw, count):
         found = faults(data, ran(program, data))

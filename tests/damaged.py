@@ -2,10 +2,9 @@
 
 REPLAY is the program that runs the plan bytes of its input on an empty sheet, DUMP the program of tests/dump.c."""
 import collections
-import random
 import subprocess
-import sys
 
+import arguments
 import orders
 
 
@@ -56,7 +55,7 @@ def damaged(draw, data):
     return bytes(data)
 
 
-def kind(output):
+def outcome(output):
     """The refusal's number, or "accepted"; and whether the place, or the count of orders, is 0."""
     words = output.split("\n")[0].split(" ")
     return "accepted" if words[0] == "orders" else words[1], words[-1] == "0"
@@ -67,9 +66,7 @@ def answer(replay, data):
 
 
 def main():
-    replay, dump = sys.argv[1:3]
-    count = int(sys.argv[3]) if len(sys.argv) > 3 else 500
-    draw = random.Random(int(sys.argv[4]) if len(sys.argv) > 4 else 1)
+    replay, dump, count, draw = arguments.taken(2, 500)
     plan = lambda n, m: subprocess.run([dump, n, m], stdout=subprocess.PIPE, check=True).stdout
     longest = plan("64", "4")
     for data in [longest, longest[:-1]]:
@@ -84,7 +81,7 @@ def main():
             data = damaged(draw, data)
         output = answer(replay, data)
         assert output == expected(data), (data.hex(), output, expected(data))
-        seen[kind(output)] += 1
+        seen[outcome(output)] += 1
         seen["damaged plans of the unit"] += own and k % 4 > 0
     missed = [(name, zero) for name in ["accepted", "9", "10", "11", "12"] for zero in [True, False] if not seen[name, zero]]
     assert not missed, missed

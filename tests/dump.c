@@ -3,12 +3,7 @@
 #include <stdlib.h>
 
 #include "dacwiiqon.h"
-
-static uint64_t number(const uint8_t *bytes) {
-    uint64_t v = 0;
-    for (int k = 7; k >= 0; k--) v = v * 256 + bytes[k];
-    return v;
-}
+#include "number.h"
 
 static int refused(uint32_t refusal) {
     if (refusal != 0) fprintf(stderr, "refused %u\n", refusal);

@@ -1,9 +1,8 @@
 """Tries every clearing of small books, and holds tests/solver.py to document 01's own words: greatest used amounts in
 dictionary order along the merit order, and greatest welfare; and to its examples. One command: python3 tests/exhaustive.py [BOOKS] [SEED]"""
 import itertools
-import random
-import sys
 
+import arguments
 import solver
 
 # document 01's examples 1 to 7 and the book of its costly mistakes: m, lines, bids, and as much of the result as it prints
@@ -94,8 +93,7 @@ def small(draw):
 
 
 def main():
-    books = int(sys.argv[1]) if len(sys.argv) > 1 else 2000
-    draw = random.Random(int(sys.argv[2]) if len(sys.argv) > 2 else 1)
+    books, draw = arguments.taken(0, 2000)
     for m, lines, bids, printed in EXAMPLES:
         accepted, prices = solver.clear(len(bids), m, bids, [[lines.get((a, b), 0) for b in range(1, m + 1)] for a in range(1, m + 1)])
         found = {"accepted": accepted, "welfare": solver.welfare(bids, accepted), "prices": prices}

@@ -5,18 +5,13 @@
 #include <string.h>
 
 #include "dacwiiqon.h"
+#include "number.h"
 
 #define ROOM 4096 /* the longest slice */
 #define GUARD 8   /* bytes after a slice, not lent */
 #define FILL 0xEE /* what slices and guards hold before a call */
 
 static uint8_t bytes[ROOM + GUARD], out[24 + GUARD];
-
-static uint64_t number(const uint8_t *at) {
-    uint64_t v = 0;
-    for (int k = 7; k >= 0; k--) v = v * 256 + at[k];
-    return v;
-}
 
 static void require(int right, const char *what) {
     if (!right) {

@@ -1,4 +1,6 @@
 """The machine and the plan's bytes, written apart from the unit from document 01's words."""
+from solver import BID_NUMBERS, POOL_RESULTS
+
 P, CELLS = 2_147_483_647, 4_096
 
 
@@ -87,6 +89,14 @@ def cleared(bids, capacities, accepted, flows, prices):
     return sheet(inputs(bids, capacities) + accepted + [v for row in flows for v in row] + cells)
 
 
+def first_result(n, m):
+    return BID_NUMBERS * n + m * m
+
+
+def result_count(n, m):
+    return n + m * m + POOL_RESULTS * m
+
+
 def flows(n, m, cells):
-    at = 3 * n + m * m + n
+    at = first_result(n, m) + n
     return [[signed(x) for x in cells[at + a * m:at + a * m + m]] for a in range(m)]

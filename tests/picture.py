@@ -24,8 +24,8 @@ def phases(n, m):
 
 
 def drawn(n, m, found):
-    first = 3 * n + m * m
-    scratch = first + n + m * m + 2 * m
+    first = orders.first_result(n, m)
+    scratch = first + orders.result_count(n, m)
     last = max(max(o[1] for o in found) + 1, scratch)
     x = lambda k: LEFT + k * WIDTH / len(found)
     y = lambda c: TOP + c * HEIGHT / last

@@ -1,10 +1,9 @@
 """Runs the unit's own plans on the machine written apart, and holds what they leave to the solver, and README's table of orders to their lengths:
 python3 tests/plans.py DUMP [PLANS] [SEED], DUMP being the program of tests/dump.c."""
 import pathlib
-import random
 import subprocess
-import sys
 
+import arguments
 import books
 import orders
 import solver
@@ -48,9 +47,7 @@ def check(found, n, m, bids, capacities):
 
 
 def main():
-    dump = sys.argv[1]
-    count = int(sys.argv[2]) if len(sys.argv) > 2 else 100
-    draw = random.Random(int(sys.argv[3]) if len(sys.argv) > 3 else 1)
+    dump, count, draw = arguments.taken(1, 100)
     figures = table()
     assert len(figures) == 6
     # README's counts, then every n and m within 260 plans, in leaps so that few plans reach small and great n too

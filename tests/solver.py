@@ -6,6 +6,7 @@ A book is (n, m, bids, capacities): bids a list of (pool, price, quantity), pool
 from collections import deque
 
 BIDS, POOLS, PRICE, QUANTITY, CAPACITY = 64, 4, 30_000, 65_535, 1_000_000
+BID_NUMBERS, POOL_RESULTS = 3, 2  # pool, price, quantity; price, presence
 
 
 def refusal(n, m, bids, capacities):

@@ -9,6 +9,7 @@
 #include <time.h>
 
 #include "dacwiiqon.h"
+#include "number.h"
 
 #define P 2147483647u
 #define CELLS 4096
@@ -24,7 +25,8 @@ static double now(void) {
     return t.tv_sec * 1e6 + t.tv_nsec / 1e3;
 }
 
-static uint32_t number(const uint8_t **at) {
+/* A number of an order: groups of seven bits, lowest first. */
+static uint32_t grouped(const uint8_t **at) {
     uint32_t v = 0, shift = 0;
     while (**at >= 128) { v |= (uint32_t)(*(*at)++ & 127) << shift; shift += 7; }
     return v | (uint32_t)*(*at)++ << shift;
@@ -101,13 +103,11 @@ static void greedy(int64_t *accepted) {
 /* The whole plan in slices of a length: the bytes got. */
 static size_t walk(uint8_t *to, size_t length) {
     uint8_t out[24];
-    uint64_t position = 0, given[3] = {0, 1, 0};
+    uint64_t position = 0;
     size_t size = 0;
-    while (given[1] > 0 && plan_bytes((uint64_t)n, (uint64_t)m, position, to + size, length, out, sizeof out) == 0) {
-        memset(given, 0, sizeof given);
-        for (int k = 23; k >= 0; k--) given[k / 8] = given[k / 8] * 256 + out[k];
-        size += given[0];
-        position = given[2];
+    while (plan_bytes((uint64_t)n, (uint64_t)m, position, to + size, length, out, sizeof out) == 0 && number(out + 8) > 0) {
+        size += number(out);
+        position = number(out + 16);
     }
     return size;
 }
@@ -135,10 +135,10 @@ int main(int count, char **words) {
     for (int i = 0; i < n; i++) for (int j = 0; j < 3; j++) if (scanf("%d", &bids[i][j]) != 1) return 2;
     for (int a = 0; a < m; a++) for (int b = 0; b < m; b++) if (scanf("%d", &lines[a][b]) != 1) return 2;
     for (const uint8_t *at = bytes; at < bytes + size; orders++) {
-        list[orders].kind = number(&at);
-        list[orders].d = number(&at);
-        if (list[orders].kind == 0) { list[orders].a = 0; list[orders].b = number(&at); }
-        else { list[orders].a = number(&at); list[orders].b = number(&at); }
+        list[orders].kind = grouped(&at);
+        list[orders].d = grouped(&at);
+        if (list[orders].kind == 0) { list[orders].a = 0; list[orders].b = grouped(&at); }
+        else { list[orders].a = grouped(&at); list[orders].b = grouped(&at); }
     }
     int turns = 400;
     double start = now();

@@ -30,10 +30,11 @@ def read(text):
     if m == 0 or m > solver.POOLS:
         return "refused", 2, 0
     values = [number(w) for w in words[2:]]
-    if len(values) != 3 * n + m * m or None in values:
+    lines = solver.BID_NUMBERS * n
+    if len(values) != lines + m * m or None in values:
         return "unreadable"
-    bids = [tuple(values[3 * i:3 * i + 3]) for i in range(n)]
-    capacities = [values[3 * n + m * a:3 * n + m * (a + 1)] for a in range(m)]
+    bids = [tuple(values[i:i + solver.BID_NUMBERS]) for i in range(0, lines, solver.BID_NUMBERS)]
+    capacities = [values[lines + m * a:lines + m * (a + 1)] for a in range(m)]
     refused = solver.refusal(n, m, bids, capacities)
     return ("refused",) + refused if refused else (n, m, bids, capacities)
 

@@ -55,7 +55,7 @@ fn put_digits(out: &mut [u8], at: usize, v: usize, k: usize) -> usize
 }
 
 // The size of a number, also of the least one.
-fn size(v: i64) -> usize
+pub fn size(v: i64) -> usize
     ensures { λ r. ⌜ r ≡ natAbs v ⌝ }
 {
     if v < 0 {

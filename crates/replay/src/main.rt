@@ -4,10 +4,11 @@
 ghost use Rattle.io.specs.Counts.{Counts};
 use definitions::Limits;
 use definitions::is_accepted;
-use definitions::number;
-use definitions::place;
 use libc::STDIN_FILENO;
 use libc::STDOUT_FILENO;
+use printing::print_cells;
+use printing::print_number;
+use printing::print_verdict;
 use runner::run;
 
 struct Replay {}
@@ -15,28 +16,6 @@ struct Replay {}
 impl Replay {
     // Room for the bytes of a plan: the longest, for 64 bids and 4 pools, has about 393,000.
     const ROOM: usize = 524_288;
-}
-
-fn wide(x: u32) -> u64 {
-    x as u64
-}
-
-fn print_pair(word: &[u8], a: u64, b: u64) {
-    io::write_all(STDOUT_FILENO, word);
-    io::print_decimal(STDOUT_FILENO, a);
-    io::write_all(STDOUT_FILENO, b" ");
-    io::print_decimal(STDOUT_FILENO, b);
-    io::write_all(STDOUT_FILENO, b"\n");
-}
-
-fn print_cells(sheet: &[u32; Limits::CELLS]) {
-    let mut c = 0;
-    while c < Limits::CELLS {
-        if sheet[c] != 0 {
-            print_pair(b"cell ", c as u64, wide(sheet[c]));
-        }
-        c += 1;
-    }
 }
 
 // How many bytes were read, and whether they are all: an answer below 0 is a failed read, and 0 is the end.
@@ -76,11 +55,9 @@ fn main() {
     let ran = run(&mut sheet, &bytes[..size]);
     let verdict = ran.verdict;
     if !is_accepted(verdict) {
-        print_pair(b"refused ", wide(number(verdict)), place(verdict) as u64);
+        print_verdict(verdict);
         return;
     }
-    io::write_all(STDOUT_FILENO, b"orders ");
-    io::print_decimal(STDOUT_FILENO, ran.orders as u64);
-    io::write_all(STDOUT_FILENO, b"\n");
+    print_number(b"orders", ran.orders);
     print_cells(&sheet);
 }

@@ -2,44 +2,21 @@
 // After each name stands what the runner answers on an empty sheet, with every cell that is not 0 then: a refused plan leaves none.
 use definitions::Limits;
 use definitions::is_accepted;
-use definitions::number;
-use definitions::place;
 use libc::STDOUT_FILENO;
+use printing::print_cells;
+use printing::print_number;
+use printing::print_verdict;
 use runner::Ran;
 use runner::run;
-
-fn wide(x: u32) -> u64 {
-    x as u64
-}
-
-fn print_pair(word: &[u8], a: u64, b: u64) {
-    io::write_all(STDOUT_FILENO, word);
-    io::print_decimal(STDOUT_FILENO, a);
-    io::write_all(STDOUT_FILENO, b" ");
-    io::print_decimal(STDOUT_FILENO, b);
-    io::write_all(STDOUT_FILENO, b"\n");
-}
-
-fn print_cells(sheet: &[u32; Limits::CELLS]) {
-    let mut c = 0;
-    while c < Limits::CELLS {
-        if sheet[c] != 0 {
-            print_pair(b"cell ", c as u64, wide(sheet[c]));
-        }
-        c += 1;
-    }
-}
 
 // The count of orders, or the refusal.
 fn print_ran(ran: Ran) {
     let verdict = ran.verdict;
     if !is_accepted(verdict) {
-        print_pair(b"refused ", wide(number(verdict)), place(verdict) as u64);
+        print_verdict(verdict);
         return;
     }
-    io::write_all(STDOUT_FILENO, b"orders ");
-    io::print_decimal(STDOUT_FILENO, ran.orders as u64);
-    io::write_all(STDOUT_FILENO, b"\n");
+    print_number(b"orders", ran.orders);
 }
 
 // Runs some bytes, then others on the same sheet, and prints what the second run answers and leaves.

@@ -1,11 +1,11 @@
--- `replay::print_cells` is safe and ends: the index stays within the sheet. The measure is the cells left.
+-- `print_cells` is safe and ends: the index stays within the sheet. The measure is the cells left.
 use Prim.Native.Nat.{_≤_, _-_}
 use borrow.Author.Needs.{needs}
-use Rattle.replay.proofs.print_cells.Statement.{statement}
-use Rattle.replay.proofs.print_cells.Tie as tie
+use Rattle.printing.proofs.print_cells.Statement.{statement}
+use Rattle.printing.proofs.print_cells.Tie as tie
 
 abbrev Inv-loop : tie.InvT-loop
-Inv-loop sheet c₀ t3 c = c ≤ 4096
+Inv-loop sheet c₀ t3 c = (c ≤ 4096)
 
 abbrev μ-loop : tie.MeasureT-loop
 μ-loop sheet c₀ t3 c = 4096 - c

@@ -1,0 +1,71 @@
+-- `copy_signed` meets its contract. The invariant: the first i entries are copied. The measure is the places left.
+use Prim.Native.Nat.{ℕ, _-_, _<_, _≤_}
+use mathlib.Core.Path.{_≡_, refl, ap, _∙_}
+use native.Mathlib.Omega.{arith}
+use lib.IntN.{pos}
+use lib.ListN.{length, getD, length-set}
+use mir.Syntax.{w32}
+use mir.Val.{toZ, ofZ}
+use Rattle.laws.specs.SignedTests.{back}
+use Rattle.words.specs.Words.{entryAt, signedWord}
+use Rattle.words.proofs.Entries.{stored}
+use borrow.Author.Needs.{needs}
+use Rattle.words.proofs.copy_signed.Statement.{statement}
+use Rattle.words.proofs.copy_signed.Tie as tie
+
+abbrev Inv-loop : tie.InvT-loop
+Inv-loop input at places₀ i₀ places i = (i ≤ length places) × (length places ≡ length places₀) × ((k : ℕ) → k < i → getD places k (pos 0) ≡ signedWord (entryAt input at k))
+
+abbrev μ-loop : tie.MeasureT-loop
+μ-loop input at places₀ i₀ places i = length places₀ - i
+
+loop-holds : tie.Need-loop-holds Inv-loop μ-loop
+loop-holds c = (omega arith, refl, λ k h. absurd (omega (arith, h)))
+
+entry-requires : tie.Need-entry-requires Inv-loop μ-loop
+entry-requires c κs = search needs
+
+signed-word-requires : tie.Need-signed-word-requires Inv-loop μ-loop
+signed-word-requires c κs = search needs
+
+mul-x : tie.Need-mul-x Inv-loop μ-loop
+mul-x c = search needs
+
+slice-set-from-x : tie.Need-slice-set-from-x Inv-loop μ-loop
+slice-set-from-x c = search needs
+
+add-i : tie.Need-add-i Inv-loop μ-loop
+add-i c = search needs
+
+loop-less : tie.Need-loop-less Inv-loop μ-loop
+loop-less c = search needs
+
+loop-again : tie.Need-loop-again Inv-loop μ-loop
+loop-again c =
+    let l = c .before .before .before .loop in
+    let a = c .before .before .before .before .before .args in
+    let s = length-set (l .places) (l .i) (toZ w32 (ofZ w32 (c .signed-word .result))) in
+    (omega (arith, s), s ∙ l .inv .1, stored (pos 0) (λ (k : ℕ). signedWord (entryAt (a .input .now) (a .at) k)) (l .places) (l .i) (toZ w32 (ofZ w32 (c .signed-word .result))) (l .inv .2) (back w32 (c .signed-word .result) (c .signed-word .ok) ∙ c .signed-word .ensures ∙ ap signedWord (c .before .entry .ensures)) (omega arith))
+
+same-length : tie.Need-same-length Inv-loop μ-loop
+same-length c = search needs
+
+returns : tie.Need-returns Inv-loop μ-loop
+returns c = λ i h. c .before .loop .inv .2 i (omega (arith, h))
+
+pub copy-signed-spec : {M : Type 1} → statement M
+copy-signed-spec =
+    tie.close
+    (tie.spec
+    Inv-loop
+    μ-loop
+    loop-holds
+    entry-requires
+    signed-word-requires
+    mul-x
+    slice-set-from-x
+    add-i
+    loop-less
+    loop-again
+    same-length
+    returns)

@@ -1,0 +1,63 @@
+-- `copy_words` meets its contract. The invariant: the first i entries are copied. The measure is the places left.
+use Prim.Native.Nat.{ℕ, _-_, _<_, _≤_}
+use mathlib.Core.Path.{_≡_, refl, _∙_}
+use native.Mathlib.Omega.{arith}
+use lib.ListN.{length, getD, length-set}
+use Rattle.words.specs.Words.{entryAt}
+use Rattle.words.proofs.Entries.{stored}
+use borrow.Author.Needs.{needs}
+use Rattle.words.proofs.copy_words.Statement.{statement}
+use Rattle.words.proofs.copy_words.Tie as tie
+
+abbrev Inv-loop : tie.InvT-loop
+Inv-loop input at places₀ i₀ places i = (i ≤ length places) × (length places ≡ length places₀) × ((k : ℕ) → k < i → getD places k 0 ≡ entryAt input at k)
+
+abbrev μ-loop : tie.MeasureT-loop
+μ-loop input at places₀ i₀ places i = length places₀ - i
+
+loop-holds : tie.Need-loop-holds Inv-loop μ-loop
+loop-holds c = (omega arith, refl, λ k h. absurd (omega (arith, h)))
+
+entry-requires : tie.Need-entry-requires Inv-loop μ-loop
+entry-requires c κs = search needs
+
+mul-places : tie.Need-mul-places Inv-loop μ-loop
+mul-places c = search needs
+
+slice-write-places : tie.Need-slice-write-places Inv-loop μ-loop
+slice-write-places c = search needs
+
+add-i : tie.Need-add-i Inv-loop μ-loop
+add-i c = search needs
+
+loop-less : tie.Need-loop-less Inv-loop μ-loop
+loop-less c = search needs
+
+loop-again : tie.Need-loop-again Inv-loop μ-loop
+loop-again c =
+    let l = c .before .before .loop in
+    let a = c .before .before .before .before .before .args in
+    let s = length-set (l .places) (l .i) (c .entry .result) in
+    (omega (arith, s), s ∙ l .inv .1, stored 0 (λ (k : ℕ). entryAt (a .input .now) (a .at) k) (l .places) (l .i) (c .entry .result) (l .inv .2) (c .entry .ensures) (omega arith))
+
+same-length : tie.Need-same-length Inv-loop μ-loop
+same-length c = search needs
+
+returns : tie.Need-returns Inv-loop μ-loop
+returns c = λ i h. c .before .loop .inv .2 i (omega (arith, h))
+
+pub copy-words-spec : {M : Type 1} → statement M
+copy-words-spec =
+    tie.close
+    (tie.spec
+    Inv-loop
+    μ-loop
+    loop-holds
+    entry-requires
+    mul-places
+    slice-write-places
+    add-i
+    loop-less
+    loop-again
+    same-length
+    returns)

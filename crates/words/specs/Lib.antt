@@ -1,0 +1,2 @@
+-- The words that the program reads.
+pub mod Words
