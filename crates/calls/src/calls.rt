@@ -1,11 +1,11 @@
 // The calls: a function for each form of input says whether the input has that form, and if so makes the call and prints what it gives and leaves.
 // Word 0 is the call; behind it stand the call's numbers, then its slices. Each slice that is lent is a part, of the length given, of an array that
 // has room for any input.
+use answers::parts_of;
 use clearing::clear;
 use definitions::Order;
 use definitions::Parts;
 use definitions::Verdict;
-use definitions::parts_of;
 use judging::judge_bid;
 use libc::STDOUT_FILENO;
 use opening::open;

@@ -13,9 +13,9 @@ ghost use Rattle.definitions.specs.Outcome.{clearSheet, clearCount, clearWelfar
 ghost use Rattle.plan.specs.Plan.{plan};
 ghost use Rattle.clearing.specs.Amounts.{AmountsWithin};
 use crate::welfare::welfare;
+use answers::is_accepted;
 use definitions::Limits;
 use definitions::Verdict;
-use definitions::is_accepted;
 use orders::run_plan;
 use sealing::seal;
 

@@ -8,10 +8,10 @@ ghost use Rattle.definitions.specs.Answers.{refusalOf};
 ghost use Rattle.definitions.specs.Bytes.{mostGroups, groups, numberBytes, orderBytes, readGroups, numberAt, kindAt, cellAt, constantAt, lastAt, restAt, targetAt, orderAt, cellsOrders, ofKind};
 ghost use Rattle.codec.specs.Answer.{answerAt, orderAnswer, numberAnswer, groupsAnswer, limitedAnswer};
 ghost use Rattle.codec.specs.Written.{writtenSize, writtenBytes};
+use answers::parts_of;
 use definitions::Limits;
 use definitions::Order;
 use definitions::Verdict;
-use definitions::parts_of;
 
 // A number has at most five groups, and is below 2^32.
 const MOST_GROUPS: usize = 5;

@@ -10,9 +10,9 @@ ghost use Rattle.definitions.specs.Arithmetic.{within};
 ghost use Rattle.definitions.specs.Answers.{refusalOf, numbered, first};
 ghost use Rattle.definitions.specs.Book.{book};
 ghost use Rattle.definitions.specs.Calls.{poolsRefusal, countsRefusal, lengthRefusal, bidFault, bidRefusal, bidsRefusal, capacityFault, capacitiesRefusal, sealRefusal, cellsRefusal};
+use answers::is_accepted;
 use definitions::Limits;
 use definitions::Verdict;
-use definitions::is_accepted;
 
 // The pool count: 2.
 fn judge_pools(m: usize) -> Verdict

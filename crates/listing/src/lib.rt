@@ -9,8 +9,8 @@ ghost use Rattle.definitions.specs.Sheet.{resultCount};
 ghost use Rattle.listing.specs.Lines.{lastField, rowLines};
 ghost use Rattle.listing.specs.Put.{Put};
 ghost use Rattle.listing.specs.Text.{listable, listingSize, listingSlice, refusedSize, refusedSlice, unreadableSize, unreadableSlice};
+use answers::is_accepted;
 use definitions::Limits;
-use definitions::is_accepted;
 use judging::judge_counts;
 
 // The bytes that a caller lends: no text is longer.

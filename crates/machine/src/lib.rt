@@ -7,9 +7,9 @@ ghost use Rattle.definitions.specs.Limits.{cellCount, modulus};
 ghost use Rattle.definitions.specs.Machine.{stepOf, plus, minus, times, lessThan, sameAs};
 ghost use Rattle.machine.specs.Step.{holdsResidue, constantRuns, cellsRun, runnable, stepped};
 ghost use Rattle.machine.specs.Parts.{kindResult};
+use answers::parts_of;
 use definitions::Limits;
 use definitions::Order;
-use definitions::parts_of;
 use residues::reading;
 
 // Orders 1, 2, 3: the sum, the difference, the product modulo p.

@@ -10,43 +10,17 @@ use crate::names::*;
 use crate::sets::is_leaving;
 use crate::sets::other_pools;
 use crate::sets::subset_count;
-use definitions::Limits;
 
 // The size of bid i.
 pub fn size_order(i: usize, r: usize) -> NamedOrder
     requires { ⌜ r < 3 ⌝ }
     ensures { λ o. ⌜ o ≡ made (sizeBlock i) r ⌝ }
 {
-    let quantity = Limits::QUANTITY_PLACE;
-    if r == 0 {
-        return NamedOrder(PRODUCT, TEMPORARIES, 0, 0, BIDS, i, quantity, SIDES, i, 0);
+    match r {
+        0 => NamedOrder(PRODUCT, OWN, 0, 0, BIDS, i, QUANTITY, SIDES, i, 0),
+        1 => NamedOrder(DIFFERENCE, OWN, 1, 0, BIDS, i, QUANTITY, OWN, 0, 0),
+        2.. => NamedOrder(DIFFERENCE, SIZES, i, 0, OWN, 0, 0, OWN, 1, 0),
     }
-    if r == 1 {
-        return NamedOrder(
-            DIFFERENCE,
-            TEMPORARIES,
-            1,
-            0,
-            BIDS,
-            i,
-            quantity,
-            TEMPORARIES,
-            0,
-            0,
-        );
-    }
-    NamedOrder(
-        DIFFERENCE,
-        SIZES,
-        i,
-        0,
-        TEMPORARIES,
-        0,
-        0,
-        TEMPORARIES,
-        1,
-        0,
-    )
 }
 
 // The size of bid i, if it is a purchase in pool p, added to the pool's demand.
@@ -54,10 +28,10 @@ pub fn demand_turn(p: usize, i: usize, r: usize) -> NamedOrder
     requires { ⌜ r < 2 ⌝ }
     ensures { λ o. ⌜ o ≡ made (demandTurn p i) r ⌝ }
 {
-    if r == 0 {
-        return NamedOrder(PRODUCT, TEMPORARIES, 0, 0, SIDES, i, 0, POOL_SIZES, i, p);
+    match r {
+        0 => NamedOrder(PRODUCT, OWN, 0, 0, SIDES, i, 0, POOL_SIZES, i, p),
+        1.. => NamedOrder(SUM, DEMANDS, p, 0, DEMANDS, p, 0, OWN, 0, 0),
     }
-    NamedOrder(SUM, DEMANDS, p, 0, DEMANDS, p, 0, TEMPORARIES, 0, 0)
 }
 
 // The size of bid j in pool p, if the test said that j is before i, added to the sizes before bid i.
@@ -65,32 +39,10 @@ pub fn gain_turn(i: usize, j: usize, p: usize, r: usize) -> NamedOrder
     requires { ⌜ r < 2 ⌝ }
     ensures { λ o. ⌜ o ≡ made (gainTurn i j p) r ⌝ }
 {
-    if r == 0 {
-        return NamedOrder(
-            PRODUCT,
-            TEMPORARIES,
-            1,
-            0,
-            TEMPORARIES,
-            0,
-            0,
-            POOL_SIZES,
-            j,
-            p,
-        );
+    match r {
+        0 => NamedOrder(PRODUCT, OWN, 1, 0, OWN, 0, 0, POOL_SIZES, j, p),
+        1.. => NamedOrder(SUM, SIZES_BEFORE, i, p, SIZES_BEFORE, i, p, OWN, 1, 0),
     }
-    NamedOrder(
-        SUM,
-        SIZES_BEFORE,
-        i,
-        p,
-        SIZES_BEFORE,
-        i,
-        p,
-        TEMPORARIES,
-        1,
-        0,
-    )
 }
 
 // The lesser of cells (f, x, y) and (g, z, w), to the first of them.
@@ -100,27 +52,12 @@ fn lowered_order(f: usize, x: usize, y: usize, g: usize, z: usize, w: usize, r: 
     requires { ⌜ r < 4 ⌝ }
     ensures { λ o. ⌜ o ≡ made (lowered (nameAt f x y) (nameAt g z w)) r ⌝ }
 {
-    if r == 0 {
-        return NamedOrder(LESS, TEMPORARIES, 0, 0, g, z, w, f, x, y);
+    match r {
+        0 => NamedOrder(LESS, OWN, 0, 0, g, z, w, f, x, y),
+        1 => NamedOrder(DIFFERENCE, OWN, 1, 0, g, z, w, f, x, y),
+        2 => NamedOrder(PRODUCT, OWN, 0, 0, OWN, 0, 0, OWN, 1, 0),
+        3.. => NamedOrder(SUM, f, x, y, f, x, y, OWN, 0, 0),
     }
-    if r == 1 {
-        return NamedOrder(DIFFERENCE, TEMPORARIES, 1, 0, g, z, w, f, x, y);
-    }
-    if r == 2 {
-        return NamedOrder(
-            PRODUCT,
-            TEMPORARIES,
-            0,
-            0,
-            TEMPORARIES,
-            0,
-            0,
-            TEMPORARIES,
-            1,
-            0,
-        );
-    }
-    NamedOrder(SUM, f, x, y, f, x, y, TEMPORARIES, 0, 0)
 }
 
 // The greater of cells (f, x, y) and (g, z, w), to the first of them.
@@ -130,27 +67,12 @@ fn raised_order(f: usize, x: usize, y: usize, g: usize, z: usize, w: usize, r: u
     requires { ⌜ r < 4 ⌝ }
     ensures { λ o. ⌜ o ≡ made (raised (nameAt f x y) (nameAt g z w)) r ⌝ }
 {
-    if r == 0 {
-        return NamedOrder(LESS, TEMPORARIES, 0, 0, f, x, y, g, z, w);
+    match r {
+        0 => NamedOrder(LESS, OWN, 0, 0, f, x, y, g, z, w),
+        1 => NamedOrder(DIFFERENCE, OWN, 1, 0, g, z, w, f, x, y),
+        2 => NamedOrder(PRODUCT, OWN, 0, 0, OWN, 0, 0, OWN, 1, 0),
+        3.. => NamedOrder(SUM, f, x, y, f, x, y, OWN, 0, 0),
     }
-    if r == 1 {
-        return NamedOrder(DIFFERENCE, TEMPORARIES, 1, 0, g, z, w, f, x, y);
-    }
-    if r == 2 {
-        return NamedOrder(
-            PRODUCT,
-            TEMPORARIES,
-            0,
-            0,
-            TEMPORARIES,
-            0,
-            0,
-            TEMPORARIES,
-            1,
-            0,
-        );
-    }
-    NamedOrder(SUM, f, x, y, f, x, y, TEMPORARIES, 0, 0)
 }
 
 // The accepted amount of bid i.
@@ -158,16 +80,12 @@ pub fn amount_order(i: usize, r: usize) -> NamedOrder
     requires { ⌜ r < 4 ⌝ }
     ensures { λ o. ⌜ o ≡ made (amountBlock i) r ⌝ }
 {
-    if r == 0 {
-        return NamedOrder(DIFFERENCE, TEMPORARIES, 0, 0, SIZES, i, 0, USES, i, 0);
+    match r {
+        0 => NamedOrder(DIFFERENCE, OWN, 0, 0, SIZES, i, 0, USES, i, 0),
+        1 => NamedOrder(DIFFERENCE, OWN, 0, 0, OWN, 0, 0, USES, i, 0),
+        2 => NamedOrder(PRODUCT, OWN, 0, 0, OWN, 0, 0, SIDES, i, 0),
+        3.. => NamedOrder(SUM, AMOUNTS, i, 0, USES, i, 0, OWN, 0, 0),
     }
-    if r == 1 {
-        return NamedOrder(DIFFERENCE, TEMPORARIES, 0, 0, TEMPORARIES, 0, 0, USES, i, 0);
-    }
-    if r == 2 {
-        return NamedOrder(PRODUCT, TEMPORARIES, 0, 0, TEMPORARIES, 0, 0, SIDES, i, 0);
-    }
-    NamedOrder(SUM, AMOUNTS, i, 0, USES, i, 0, TEMPORARIES, 0, 0)
 }
 
 // The used amount of bid i, if it is in pool p, added to the pool's.
@@ -175,10 +93,10 @@ pub fn placement_turn(p: usize, i: usize, r: usize) -> NamedOrder
     requires { ⌜ r < 2 ⌝ }
     ensures { λ o. ⌜ o ≡ made (placementTurn p i) r ⌝ }
 {
-    if r == 0 {
-        return NamedOrder(PRODUCT, TEMPORARIES, 0, 0, MEMBERSHIPS, i, p, USES, i, 0);
+    match r {
+        0 => NamedOrder(PRODUCT, OWN, 0, 0, MEMBERSHIPS, i, p, USES, i, 0),
+        1.. => NamedOrder(SUM, PLACEMENTS, p, 0, PLACEMENTS, p, 0, OWN, 0, 0),
     }
-    NamedOrder(SUM, PLACEMENTS, p, 0, PLACEMENTS, p, 0, TEMPORARIES, 0, 0)
 }
 
 // The offer of bid i.
@@ -186,38 +104,12 @@ pub fn offer_order(i: usize, r: usize) -> NamedOrder
     requires { ⌜ r < 4 ⌝ }
     ensures { λ o. ⌜ o ≡ made (offerBlock i) r ⌝ }
 {
-    if r == 0 {
-        return NamedOrder(LESS, TEMPORARIES, 0, 0, ZERO_CELLS, 0, 0, AMOUNTS, i, 0);
+    match r {
+        0 => NamedOrder(LESS, OWN, 0, 0, ZERO_CELLS, 0, 0, AMOUNTS, i, 0),
+        1 => NamedOrder(DIFFERENCE, OWN, 1, 0, UNITS, 0, 0, SIDES, i, 0),
+        2 => NamedOrder(PRODUCT, OWN, 0, 0, OWN, 0, 0, OWN, 1, 0),
+        3.. => NamedOrder(PRODUCT, OFFERS, i, 0, OWN, 0, 0, POSITIVE_PRICES, i, 0),
     }
-    if r == 1 {
-        return NamedOrder(DIFFERENCE, TEMPORARIES, 1, 0, UNITS, 0, 0, SIDES, i, 0);
-    }
-    if r == 2 {
-        return NamedOrder(
-            PRODUCT,
-            TEMPORARIES,
-            0,
-            0,
-            TEMPORARIES,
-            0,
-            0,
-            TEMPORARIES,
-            1,
-            0,
-        );
-    }
-    NamedOrder(
-        PRODUCT,
-        OFFERS,
-        i,
-        0,
-        TEMPORARIES,
-        0,
-        0,
-        POSITIVE_PRICES,
-        i,
-        0,
-    )
 }
 
 // The price and presence of pool p.
@@ -225,24 +117,11 @@ pub fn price_order(p: usize, r: usize) -> NamedOrder
     requires { ⌜ r < 3 ⌝ }
     ensures { λ o. ⌜ o ≡ made (priceBlock p) r ⌝ }
 {
-    if r == 0 {
-        return NamedOrder(LESS, PRICES, p, 1, ZERO_CELLS, 0, 0, HIGHEST_OFFERS, p, 0);
+    match r {
+        0 => NamedOrder(LESS, PRICES, p, 1, ZERO_CELLS, 0, 0, HIGHEST_OFFERS, p, 0),
+        1 => NamedOrder(DIFFERENCE, OWN, 0, 0, HIGHEST_OFFERS, p, 0, SHIFTS, 0, 0),
+        2.. => NamedOrder(PRODUCT, PRICES, p, 0, OWN, 0, 0, PRICES, p, 1),
     }
-    if r == 1 {
-        return NamedOrder(
-            DIFFERENCE,
-            TEMPORARIES,
-            0,
-            0,
-            HIGHEST_OFFERS,
-            p,
-            0,
-            SHIFTS,
-            0,
-            0,
-        );
-    }
-    NamedOrder(PRODUCT, PRICES, p, 0, TEMPORARIES, 0, 0, PRICES, p, 1)
 }
 
 // Order s of the sums over all subsets; (g, z, w) is the cell of the set's lowest pool.
@@ -261,12 +140,12 @@ pub fn test_order(i: usize, j: usize) -> NamedOrder
     ensures { λ o. ⌜ o ≡ flatOf (testOrder i j) ⌝ }
 {
     if j < i {
-        return NamedOrder(LESS, TEMPORARIES, 0, 0, KEYS, j, 0, NEXTS, i, 0);
+        return NamedOrder(LESS, OWN, 0, 0, KEYS, j, 0, NEXTS, i, 0);
     }
     if i < j {
-        return NamedOrder(LESS, TEMPORARIES, 0, 0, DOUBLES, j, 0, KEYS, i, 0);
+        return NamedOrder(LESS, OWN, 0, 0, DOUBLES, j, 0, KEYS, i, 0);
     }
-    NamedOrder(LESS, TEMPORARIES, 0, 0, ZERO_CELLS, 0, 0, ZERO_CELLS, 0, 0)
+    NamedOrder(LESS, OWN, 0, 0, ZERO_CELLS, 0, 0, ZERO_CELLS, 0, 0)
 }
 
 // Line a to b's part of the cut of s.
@@ -285,9 +164,9 @@ pub fn rest_turn(a: usize, b: usize, s: usize, r: usize) -> NamedOrder
     ensures { λ o. ⌜ o ≡ made (restTurn a b s) r ⌝ }
 {
     if is_leaving(s, a, b) {
-        return lowered_order(TEMPORARIES, 2, 0, SLACKS, s, 0, r);
+        return lowered_order(OWN, 2, 0, SLACKS, s, 0, r);
     }
-    lowered_order(TEMPORARIES, 2, 0, CAPACITIES, a, b, r)
+    lowered_order(OWN, 2, 0, CAPACITIES, a, b, r)
 }
 
 // The slack of s after line l, a to b: less what the line leaves unused if it leaves s, less its flow if it enters s.
@@ -295,7 +174,7 @@ pub fn take_turn(l: usize, a: usize, b: usize, s: usize) -> NamedOrder
     ensures { λ o. ⌜ o ≡ made (takeTurn l a b s) 0 ⌝ }
 {
     if is_leaving(s, a, b) {
-        return NamedOrder(DIFFERENCE, SLACKS, s, 0, SLACKS, s, 0, TEMPORARIES, 2, 0);
+        return NamedOrder(DIFFERENCE, SLACKS, s, 0, SLACKS, s, 0, OWN, 2, 0);
     }
     if is_leaving(s, b, a) {
         return NamedOrder(DIFFERENCE, SLACKS, s, 0, SLACKS, s, 0, FLOWS, l, 0);
@@ -315,9 +194,9 @@ pub fn cost_turn(m: usize, u: usize, i: usize, s: usize, r: usize) -> NamedOrder
         let sets = subset_count(m);
         let last = sets - 1;
         let rest = last - s;
-        return NamedOrder(SUM, TEMPORARIES, 2, 0, CUTS, s, 0, SUBSETS, rest, 0);
+        return NamedOrder(SUM, OWN, 2, 0, CUTS, s, 0, SUBSETS, rest, 0);
     }
-    lowered_order(u, i, 0, TEMPORARIES, 2, 0, r - 1)
+    lowered_order(u, i, 0, OWN, 2, 0, r - 1)
 }
 
 // One step of a greatest, in pool p's highest offer: the offer of bid i if it is in p.
@@ -326,7 +205,7 @@ pub fn highest_offer_turn(p: usize, i: usize, r: usize) -> NamedOrder
     ensures { λ o. ⌜ o ≡ made (highestOfferTurn p i) r ⌝ }
 {
     if r == 0 {
-        return NamedOrder(PRODUCT, TEMPORARIES, 2, 0, MEMBERSHIPS, i, p, OFFERS, i, 0);
+        return NamedOrder(PRODUCT, OWN, 2, 0, MEMBERSHIPS, i, p, OFFERS, i, 0);
     }
-    raised_order(HIGHEST_OFFERS, p, 0, TEMPORARIES, 2, 0, r - 1)
+    raised_order(HIGHEST_OFFERS, p, 0, OWN, 2, 0, r - 1)
 }

@@ -16,9 +16,9 @@ use crate::walk::order_in;
 use crate::write::judge_room;
 use crate::write::none_written;
 use crate::write::write_from;
+use answers::is_accepted;
 use definitions::Order;
 use definitions::Verdict;
-use definitions::is_accepted;
 use judging::judge_counts;
 
 mod blocks;

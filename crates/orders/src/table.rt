@@ -200,9 +200,9 @@ fn lines(n: usize, m: usize, i: usize, q: usize, j: usize, r: usize) -> NamedOrd
     let a = i / m;
     let b = i % m;
     match q {
-        0 => NamedOrder(SUM, TEMPORARIES, 2, 0, CAPACITIES, a, b, ZERO_CELLS, 0, 0),
+        0 => NamedOrder(SUM, OWN, 2, 0, CAPACITIES, a, b, ZERO_CELLS, 0, 0),
         1 => rest_turn(a, b, j, r),
-        2 => NamedOrder(DIFFERENCE, FLOWS, i, 0, CAPACITIES, a, b, TEMPORARIES, 2, 0),
+        2 => NamedOrder(DIFFERENCE, FLOWS, i, 0, CAPACITIES, a, b, OWN, 2, 0),
         3.. => take_turn(i, a, b, j),
     }
 }
@@ -227,44 +227,11 @@ pub fn order_of(n: usize, m: usize, k: usize, i: usize, q: usize, j: usize, r: u
 {
     match k {
         0 => NamedOrder(CONSTANT, UNITS, i, 0, 1, 0, 0, 0, 0, 0),
-        1 => NamedOrder(
-            CONSTANT,
-            SHIFTS,
-            i,
-            0,
-            Limits::PRICE as usize + 1,
-            0,
-            0,
-            0,
-            0,
-            0,
-        ),
+        1 => NamedOrder(CONSTANT, SHIFTS, i, 0, SHIFT, 0, 0, 0, 0, 0),
         2 => NamedOrder(CONSTANT, POOL_NUMBERS, i, 0, i + 1, 0, 0, 0, 0, 0),
-        3 => NamedOrder(
-            LESS,
-            SIDES,
-            i,
-            0,
-            ZERO_CELLS,
-            0,
-            0,
-            BIDS,
-            i,
-            Limits::QUANTITY_PLACE,
-        ),
+        3 => NamedOrder(LESS, SIDES, i, 0, ZERO_CELLS, 0, 0, BIDS, i, QUANTITY),
         4 => size_order(i, r),
-        5 => NamedOrder(
-            SUM,
-            POSITIVE_PRICES,
-            i,
-            0,
-            BIDS,
-            i,
-            Limits::PRICE_PLACE,
-            SHIFTS,
-            0,
-            0,
-        ),
+        5 => NamedOrder(SUM, POSITIVE_PRICES, i, 0, BIDS, i, PRICE, SHIFTS, 0, 0),
         6 => NamedOrder(
             SUM,
             DOUBLES,
@@ -295,6 +262,6 @@ pub fn order_of(n: usize, m: usize, k: usize, i: usize, q: usize, j: usize, r: u
         22 => offer_order(i, r),
         23 => highest_offers(n, m, i, q, j, r),
         24 => price_order(i, r),
-        25.. => NamedOrder(CONSTANT, TEMPORARIES, j, 0, 0, 0, 0, 0, 0, 0),
+        25.. => NamedOrder(CONSTANT, OWN, j, 0, 0, 0, 0, 0, 0, 0),
     }
 }

@@ -2,11 +2,11 @@
 // A line is put together in a buffer, which is written when it is full and at the line's end. No contract can say what is written.
 ghost use Prim.Native.Nat.{_≤_};
 ghost use lib.ListN.{length};
+use answers::is_accepted;
+use answers::number;
+use answers::place;
 use definitions::Limits;
 use definitions::Verdict;
-use definitions::is_accepted;
-use definitions::number;
-use definitions::place;
 use libc::STDOUT_FILENO;
 use listing::size;
 

@@ -2,8 +2,8 @@
 // A part of a plan is not run: where more is left to read than the room takes, or a read fails, `not read whole` is printed. That `gather` says so
 // is tested, and in no contract: none can say what a read gives.
 ghost use Rattle.io.specs.Counts.{Counts};
+use answers::is_accepted;
 use definitions::Limits;
-use definitions::is_accepted;
 use libc::STDIN_FILENO;
 use libc::STDOUT_FILENO;
 use printing::print_cells;

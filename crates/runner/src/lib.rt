@@ -5,11 +5,11 @@ ghost use Rattle.definitions.specs.Answers.{refusalOf};
 ghost use Rattle.definitions.specs.Machine.{IsSheet, runOf};
 ghost use Rattle.definitions.specs.Bytes.{parse};
 ghost use Rattle.definitions.specs.Calls.{runRefusal, runSheet, runCount};
+use answers::is_accepted;
 use codec::ReadOrder;
 use codec::read_order;
 use definitions::Limits;
 use definitions::Verdict;
-use definitions::is_accepted;
 use judging::judge_cells;
 use machine::step;
 

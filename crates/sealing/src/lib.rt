@@ -10,8 +10,8 @@ ghost use Rattle.definitions.specs.Book.{book};
 ghost use Rattle.definitions.specs.Sheet.{sealedSheet};
 ghost use Rattle.definitions.specs.Calls.{sealRefusal, sealSheet};
 ghost use Rattle.laws.specs.Write.{written};
+use answers::is_accepted;
 use definitions::Verdict;
-use definitions::is_accepted;
 use judging::judge_book;
 use residues::residue;
 

@@ -4,9 +4,9 @@ ghost use Rattle.text.specs.Reading.{decided, takenBy, countedBy, faulte
 use crate::Input;
 use crate::Reader;
 use crate::words::Ended;
+use answers::is_accepted;
 use definitions::Limits;
 use definitions::Verdict;
-use definitions::is_accepted;
 use judging::judge_counts;
 
 // How far the text has come: n is next, m is next, numbers of the tables are next, or the answer is known.

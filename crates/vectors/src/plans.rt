@@ -1,7 +1,7 @@
 // Plans as bytes, sound and damaged: document 01's examples 8 to 10, and the edges of each refusal.
 // After each name stands what the runner answers on an empty sheet, with every cell that is not 0 then: a refused plan leaves none.
+use answers::is_accepted;
 use definitions::Limits;
-use definitions::is_accepted;
 use libc::STDOUT_FILENO;
 use printing::print_cells;
 use printing::print_number;

@@ -2,6 +2,7 @@
 use mathlib.Core.Path.{_≡_, _∙_}
 use native.Mathlib.Omega.{arith}
 use Rattle.orders.specs.Walk.{at-place}
+use Rattle.orders.specs.Shaped.{past}
 use Rattle.orders.specs.Families.{numbers-at}
 use Rattle.orders.specs.declared.names.NamedOrder.{NamedOrder}
 use Rattle.orders.proofs.blocks.lowered_order.Statement.{statement}
@@ -12,24 +13,24 @@ returns c =
     let s = c .before in
     let a = s .args in
     numbers-at NamedOrder (λ f g. (4, 5, 0, 0, g, a .z, a .w, f, a .x, a .y)) (a .f) (a .g) (s .pre .0) (s .pre .1 .0)
-    ∙ at-place _ _ 0 (omega (arith, c .if1 .taken))
+    ∙ at-place _ _ 0 (c .match .keys1)
 
 returns-2 : tie.Need-returns-2
 returns-2 c =
-    let s = c .before .before in
+    let s = c .before in
     let a = s .args in
     numbers-at NamedOrder (λ f g. (2, 5, 1, 0, g, a .z, a .w, f, a .x, a .y)) (a .f) (a .g) (s .pre .0) (s .pre .1 .0)
-    ∙ at-place _ _ 1 (omega (arith, c .if2 .taken))
+    ∙ at-place _ _ 1 (c .match .keys2)
 
 returns-3 : tie.Need-returns-3
-returns-3 c = at-place _ _ 2 (omega (arith, c .if3 .taken))
+returns-3 c = at-place _ _ 2 (c .match .keys3)
 
 returns-4 : tie.Need-returns-4
 returns-4 c =
-    let s = c .before .before .before in
+    let s = c .before in
     let a = s .args in
     numbers-at NamedOrder (λ f g. (1, f, a .x, a .y, f, a .x, a .y, 5, 0, 0)) (a .f) (a .g) (s .pre .0) (s .pre .1 .0)
-    ∙ at-place _ _ 3 (omega (arith, c .before .before .if1 .left, c .before .if2 .left, c .if3 .left))
+    ∙ at-place _ _ 3 (omega (arith, past (a .r) 3 (c .match .rest), s .pre .1 .1))
 
 pub lowered-order-spec : {M : Type 1} → statement M
 lowered-order-spec = tie.close (tie.spec returns returns-2 returns-3 returns-4)

@@ -1,18 +1,14 @@
--- `size_order` meets its contract: each return is the block's order at its place.
+-- `size_order` meets its contract: each arm is the block's order at its place.
 use native.Mathlib.Omega.{arith}
-use borrow.Author.Tests.{eqb-true, eqb-false}
 use Rattle.orders.specs.Walk.{at-place}
+use Rattle.orders.specs.Shaped.{past}
 use Rattle.orders.proofs.blocks.size_order.Statement.{statement}
 use Rattle.orders.proofs.blocks.size_order.Tie as tie
 
-returns : tie.Need-returns
-returns c = at-place _ _ 0 (omega (arith, eqb-true))
-
-returns-2 : tie.Need-returns-2
-returns-2 c = at-place _ _ 1 (omega (arith, eqb-true))
-
-returns-3 : tie.Need-returns-3
-returns-3 c = at-place _ _ 2 (omega (arith, eqb-false))
-
 pub size-order-spec : {M : Type 1} → statement M
-size-order-spec = tie.close (tie.spec returns returns-2 returns-3)
+size-order-spec =
+    tie.close
+    (tie.spec
+    (λ c. at-place _ _ 0 (c .match .keys1))
+    (λ c. at-place _ _ 1 (c .match .keys2))
+    (λ c. at-place _ (c .before .args .r) 2 (omega (arith, past (c .before .args .r) 2 (c .match .rest), c .before .pre))))

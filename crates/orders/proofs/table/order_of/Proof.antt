@@ -5,7 +5,6 @@ use Prim.Native.Nat.{ℕ, _<_}
 use native.Mathlib.Omega.{arith}
 use native.Mathlib.Numerals.{add-one}
 use lib.ListN.{length, getD}
-use borrow.Author.Needs.{needs}
 use Rattle.plan.specs.Orders.{constant}
 use Rattle.plan.specs.Names.{PoolNumber, ZeroCell}
 use Rattle.plan.specs.Phased.{partAt}
@@ -48,8 +47,6 @@ unfolding phaseAt table work
 order-of-spec =
     tie.close
     (tie.spec
-    (λ c. search needs)
-    (λ c. search needs)
     (λ c. omega (arith, place (c .before) 2 (c .match .keys3) .row, c .before .pre .0 .pools .most))
     (λ c κs. turn (c .before) 4 (c .match .keys5) refl)
     (λ c κs. place (c .before) 11 (c .match .keys12))

@@ -1,9 +1,9 @@
 -- `parts_of` meets its contract: each arm is told the order's case, and with it the kind that `kind` gave.
 use mathlib.Core.Path.{sym, ap, _∙_}
 use borrow.Author.Needs.{needs}
 use Rattle.definitions.specs.Answers.{kindOf, partsOf}
-use Rattle.definitions.proofs.parts_of.Statement.{statement}
-use Rattle.definitions.proofs.parts_of.Tie as tie
+use Rattle.answers.proofs.parts_of.Statement.{statement}
+use Rattle.answers.proofs.parts_of.Tie as tie
 
 pub parts-of-spec : {M : Type 1} → statement M
 parts-of-spec =
