@@ -3,6 +3,7 @@
 CALLS is the program that makes one call on the words of its input, DUMP the program of tests/dump.c. Sound and faulty input is drawn for each call,
 with one fault or two, and input that is no call's; every printed line is compared. Then the stored inputs and lines of tests/calls.txt."""
 import collections
+import itertools
 import pathlib
 import struct
 import subprocess
@@ -67,7 +68,7 @@ def beyond(draw, k):
 
 # ---- One input of each call, with so many faults
 
-def bid(draw, faults):
+def bid(draw, plans, faults):
     m = draw.randint(1, POOLS)
     values = [draw.choice([1, m]), draw.choice([-PRICE, PRICE, 0]), draw.choice([-QUANTITY, QUANTITY, 0])]
     for _ in range(faults):
@@ -101,11 +102,7 @@ def book(number, draw, faults):
     return call(number, [n, m], bids, capacities, cells)
 
 
-def seal(draw, faults):
-    return book(2, draw, faults)
-
-
-def opened(draw, faults):
+def opened(draw, plans, faults):
     n, m = draw.randint(0, BIDS), draw.randint(1, POOLS)
     cells, results = sheet(draw), [draw.choice([LEAST, GREATEST, -1, 0, 7]) for _ in range(orders.result_count(n, m))]
     for _ in range(faults):
@@ -121,11 +118,7 @@ def opened(draw, faults):
     return call(3, [n, m], cells, results)
 
 
-def clear(draw, faults):
-    return book(4, draw, faults)
-
-
-def run(draw, faults):
+def run(draw, plans, faults):
     cells, data = sheet(draw), b"".join(orders.encoded(damaged.order(draw)) for _ in range(draw.randint(0, 9)))
     for _ in range(faults):
         kind = draw.randrange(4)
@@ -151,7 +144,11 @@ def asked(draw, plans, faults):
     return [n, m, at]
 
 
-def total(draw, faults):
+def ask(draw, plans, faults):
+    return call(6, asked(draw, plans, faults))
+
+
+def total(draw, plans, faults):
     n, m = draw.choice(COUNTS)
     return call(7, bad_counts(draw, n, m) if faults else (n, m))
 
@@ -191,18 +188,31 @@ EDGES = [b"", b"\0", b"\1\0\0", *(packed([number]) for number in range(0, 20)), 
          call(8, [0, 1, 0], [7] * 9)[:-1], packed([8, 0, 1, 0, WORDS - 1, 7]), packed([2, 0, 1, 2**31, 0, 0]), bytes(4 * answers.ROOM), bytes(4 * answers.ROOM + 1)]
 
 
-def drawn(draw, plans, k):
-    """An input, and the name of its call."""
-    faults = draw.choice([0, 1, 1, 2])
-    makers = [bid, seal, opened, clear, run, lambda d, f: call(6, asked(d, plans, f)), total, lambda d, f: write(d, plans, f)]
-    name = list(answers.CALLS.values())[k % len(makers)].__name__
-    data = makers[k % len(makers)](draw, faults)
-    return name, unreadable(draw, data) if draw.random() < 0.15 else data
+# each call's inputs, and what it has to be seen to answer: 0 for accepted, and each of its refusals
+CALLS = {
+    1: (bid, {0, 2, 4, 5, 6}),
+    2: (lambda draw, plans, faults: book(2, draw, faults), set(range(9))),
+    3: (opened, {0, 1, 2, 3, 15}),
+    4: (lambda draw, plans, faults: book(4, draw, faults), set(range(9))),
+    5: (run, {0, 3, 9, 10, 11, 12, 15}),
+    6: (ask, {0, 1, 2, 13}),
+    7: (total, {0, 1, 2}),
+    8: (write, {0, 1, 2, 13, 14}),
+}
 
 
-# what each call has to be seen to answer: accepted, and each of its refusals
-SEEN = {"bid": {0, 2, 4, 5, 6}, "seal": set(range(9)), "opened": {0, 1, 2, 3, 15}, "clear": set(range(9)), "run": {0, 3, 9, 10, 11, 12, 15}, "ask": {0, 1, 2, 13},
-        "total": {0, 1, 2}, "write": {0, 1, 2, 13, 14}}
+def drawn(draw, plans, count):
+    """Inputs of each call in turn."""
+    for k in range(count):
+        number = list(CALLS)[k % len(CALLS)]
+        data = CALLS[number][0](draw, plans, draw.choice([0, 1, 1, 2]))
+        yield number, unreadable(draw, data) if draw.random() < 0.15 else data
+
+
+def outcome(output):
+    """0 for accepted, the refusal's number, or None for unreadable."""
+    words = output.split("\n")[0].split(" ")
+    return {"accepted": 0, "unreadable": None}[words[0]] if words[0] != "refused" else int(words[1])
 
 
 def stored():
@@ -215,7 +225,7 @@ def stored():
 
 
 def main():
-    program, dump, count, draw = arguments.taken(2, 400)
+    program, dump, count, draw = arguments.taken(2, 2400)
     plans = answers.Plans(dump)
     seen = collections.defaultdict(set)
 
@@ -223,13 +233,12 @@ def main():
         done = subprocess.run([program], input=data, stdout=subprocess.PIPE, stderr=subprocess.PIPE, check=True)
         assert not done.stderr, done.stderr
         return done.stdout.decode("ascii")
-    for name, data in [("edge", data) for data in EDGES] + [drawn(draw, plans, k) for k in range(count)]:
+    for number, data in itertools.chain([(None, data) for data in EDGES], drawn(draw, plans, count)):
         found, expected = ran(data), answers.answer(plans, data)
-        assert found == expected, (name, data.hex()[:2000], found[:500], expected[:500])
-        words = found.split("\n")[0].split(" ")
-        seen[name].add({"accepted": 0, "unreadable": None}.get(words[0], words[0] == "refused" and int(words[1])))
-    missed = {name: numbers - seen[name] for name, numbers in SEEN.items() if numbers - seen[name]}
-    assert not missed and None in set().union(*seen.values()), missed
+        assert found == expected, (number, data.hex()[:2000], found[:500], expected[:500])
+        seen[number].add(outcome(found))
+    missed = {number: wanted - seen[number] for number, (_, wanted) in CALLS.items() if wanted - seen[number]}
+    assert not missed and None in seen[None], missed
     vectors = list(stored())
     for name, data, lines in vectors:
         assert ran(data) == answers.answer(plans, data) == lines, (name, ran(data)[:500], lines[:500])

@@ -4,15 +4,18 @@ ghost use mathlib.Core.Path.{_≡_};
 ghost use Prim.Native.Nat.{ℕ, _<_, _≤_, _-_, _%_};
 ghost use lib.ListN.{length, getD};
 ghost use lib.IntN.{pos};
-ghost use Rattle.words.specs.Words.{wordRoom, wordCount, wordAt, signedWord, entryAt, sliceLength, nowhere, afterSlice, afterSlices, areBytes, afterBytes, endsAt, isCall, isCallWithBytes};
+ghost use Rattle.words.specs.Words.{wordRoom, wordAt, signedWord, entryAt, sliceLength, afterSlice, afterSlices, areBytes, afterBytes, endsAt, isCall, isCallWithBytes};
 
 pub struct Words {}
 
 impl Words {
-    // How many words the program has room for, and their bytes.
+    // How many bytes a word has.
+    const SIZE: usize = 4;
+
+    // How many words there is room for, and their bytes.
     pub const ROOM: usize = 8_192;
 
-    pub const BYTES: usize = 4 * Self::ROOM;
+    pub const BYTES: usize = Self::SIZE * Self::ROOM;
 }
 
 fn digit(x: u8) -> u32
@@ -22,13 +25,13 @@ fn digit(x: u8) -> u32
 }
 
 // Word k, and 0 behind the last.
-pub fn word(input: &[u8], k: usize) -> u32
+fn word(input: &[u8], k: usize) -> u32
     ensures { λ r. ⌜ r ≡ wordAt (now (input .entry)) k ⌝ }
 {
-    if input.len() / 4 <= k {
+    if input.len() / Words::SIZE <= k {
         return 0;
     }
-    let at = 4 * k;
+    let at = Words::SIZE * k;
     let first = digit(input[at]);
     let second = digit(input[at + 1]);
     let third = digit(input[at + 2]);
@@ -66,7 +69,7 @@ pub fn signed(input: &[u8], k: usize) -> i32
 pub fn after_slice(input: &[u8], at: usize) -> usize
     ensures { λ r. ⌜ r ≡ afterSlice (now (input .entry)) at ⌝ }
 {
-    let count = input.len() / 4;
+    let count = input.len() / Words::SIZE;
     if count <= at {
         return count + 1;
     }
@@ -109,7 +112,7 @@ fn after_bytes(input: &[u8], at: usize) -> usize
     ensures { λ r. ⌜ r ≡ afterBytes (now (input .entry)) at ⌝ }
 {
     let end = after_slice(input, at);
-    let count = input.len() / 4;
+    let count = input.len() / Words::SIZE;
     if count < end {
         return count + 1;
     }
@@ -123,7 +126,7 @@ fn after_bytes(input: &[u8], at: usize) -> usize
 fn ends_at(input: &[u8], at: usize) -> bool
     ensures { λ r. ⌜ r ≡ endsAt (now (input .entry)) at ⌝ }
 {
-    input.len() % 4 == 0 && at == input.len() / 4
+    input.len() % Words::SIZE == 0 && at == input.len() / Words::SIZE
 }
 
 // Whether the input is so many words and then so many slices, and nothing more.
@@ -179,7 +182,7 @@ pub fn slice_length(input: &[u8], at: usize) -> usize
 fn entry(input: &[u8], at: usize, i: usize) -> u32
     ensures { λ r. ⌜ r ≡ entryAt (now (input .entry)) at i ⌝ }
 {
-    let count = input.len() / 4;
+    let count = input.len() / Words::SIZE;
     if count <= at {
         return 0;
     }

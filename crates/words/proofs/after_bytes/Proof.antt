@@ -1,6 +1,6 @@
 -- `after_bytes` meets its contract: by where the slice ends and whether its words are bytes.
 use Prim.Native.Nat.{ℕ, _+_, _-_}
-use mathlib.Core.Path.{_≡_, sym, ap, _∙_}
+use mathlib.Core.Path.{sym, ap, _∙_}
 use native.Mathlib.Omega.{arith}
 use Rattle.words.specs.Words.{areBytes}
 use Rattle.words.proofs.Positions.{slice-end, bytes-missing, bytes-there, bytes-broken}

@@ -1,8 +1,8 @@
 -- `are_bytes` meets its contract. The invariant: what is asked of all words is what is asked of those left. The measure is how many are left.
-use Prim.Native.Nat.{_-_, _<_, _≤_}
+use Prim.Native.Nat.{_-_}
 use mathlib.Core.Path.{_≡_, refl, sym, _∙_}
 use native.Mathlib.Omega.{arith}
-use Rattle.words.specs.Words.{wordAt, areBytes}
+use Rattle.words.specs.Words.{areBytes}
 use Rattle.words.proofs.Positions.{none-left, one-byte, no-byte}
 use borrow.Author.Needs.{needs}
 use Rattle.words.proofs.are_bytes.Statement.{statement}

@@ -1,5 +1,4 @@
 -- `signed_word` meets its contract: a word of 2^31 or more is -1 less what it lacks to the greatest.
-use native.Mathlib.Omega.{arith}
 use Rattle.words.proofs.Entries.{low-word, high-fits, high-word}
 use borrow.Author.Needs.{needs}
 use Rattle.words.proofs.signed_word.Statement.{statement}
