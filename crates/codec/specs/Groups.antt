@@ -83,7 +83,8 @@ module _ (g : ℕ) (first : Bool) (v : ℕ) (rest : List ℕ) where
   one-group l later = go (ltb v groupSize) refl
     where
       go : (t : Bool) → ltb v groupSize ≡ t
-          → readGroups (suc g) first (cond t (v ∷ []) ((v % groupSize + groupSize) ∷ groups g (v / groupSize)) ++ rest) ≡ number v (length (cond t (v ∷ []) ((v % groupSize + groupSize) ∷ groups g (v / groupSize))))
+          → readGroups (suc g) first (cond t (v ∷ []) ((v % groupSize + groupSize) ∷ groups g (v / groupSize)) ++ rest)
+          ≡ number v (length (cond t (v ∷ []) ((v % groupSize + groupSize) ∷ groups g (v / groupSize))))
       go true q = simp q l
       go false q =
           let h : groupSize ≤ v = ltb-false _ _ q in

@@ -33,4 +33,5 @@ unfolding bytesRefusal
 bytes-place plan n m at room out =
     first-place (countsRefusal n m) _ (counts-place n m)
     (first-place (lengthRefusal (eqb out countsSize)) _ (length-place (eqb out countsSize))
-    (first-place (positionRefusal (plan n m) at) (roomRefusal room) (either-place (ltb (length (plan n m)) at) (refuse 13 0) none refl refl) (either-place (ltb room longestOrder) (refuse 14 0) none refl refl)))
+    (first-place (positionRefusal (plan n m) at) (roomRefusal room) (either-place (ltb (length (plan n m)) at) (refuse 13 0) none refl refl)
+    (either-place (ltb room longestOrder) (refuse 14 0) none refl refl)))

@@ -135,7 +135,8 @@ module _ (B : Book) (sound : Sound B) where
   unfolding plan
   untouched c h =
       run-other c (cellOrders (B .n) (B .m))
-      (all-imply (WritesWell (B .n) (B .m)) (λ o. target o ≢ c) (λ o w e. h (subst (Writable (B .n) (B .m)) e (w .0))) (cellOrders (B .n) (B .m)) (numbered-writes (B .n) (B .m) (sound .bids) (sound .pools)))
+      (all-imply (WritesWell (B .n) (B .m)) (λ o. target o ≢ c) (λ o w e. h (subst (Writable (B .n) (B .m)) e (w .0))) (cellOrders (B .n) (B .m))
+      (numbered-writes (B .n) (B .m) (sound .bids) (sound .pools)))
       sealed
 
   -- the results, by their names

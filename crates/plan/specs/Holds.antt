@@ -29,16 +29,16 @@ apart-listed ws (u ∷ ts) h t e = go (oneOf ws u) (eqb (number u) (number t)) r
     go false false p q a b ih = ih a b
 
 -- every family of us is one of ts
-abbrev pub part-of : List Family → List Family → Bool
-part-of ts [] = true
-part-of ts (u ∷ us) = oneOf ts u && part-of ts us
+abbrev pub partOf : List Family → List Family → Bool
+partOf ts [] = true
+partOf ts (u ∷ us) = oneOf ts u && partOf ts us
 
-pub part-listed : (ts us : List Family) → part-of ts us ≡ true → (t : Family) → oneOf us t ≡ true → oneOf ts t ≡ true
+pub part-listed : (ts us : List Family) → partOf ts us ≡ true → (t : Family) → oneOf us t ≡ true → oneOf ts t ≡ true
 part-listed ts [] h t e = absurd (false≢true e)
 part-listed ts (u ∷ us) h t e = go (oneOf ts u) (eqb (number u) (number t)) refl refl h e (λ a. part-listed ts us a t)
   where
-    go : (x y : Bool) → oneOf ts u ≡ x → eqb (number u) (number t) ≡ y → x && part-of ts us ≡ true → y || oneOf us t ≡ true
-        → (part-of ts us ≡ true → oneOf us t ≡ true → oneOf ts t ≡ true) → oneOf ts t ≡ true
+    go : (x y : Bool) → oneOf ts u ≡ x → eqb (number u) (number t) ≡ y → x && partOf ts us ≡ true → y || oneOf us t ≡ true
+        → (partOf ts us ≡ true → oneOf us t ≡ true → oneOf ts t ≡ true) → oneOf ts t ≡ true
     go false y p q a b ih = absurd (false≢true a)
     go true true p q a b ih = ap (oneOf ts) (sym (family-equal u t q)) ∙ p
     go true false p q a b ih = ih a b
@@ -76,7 +76,7 @@ module _ (T : Tables) where
   pub holds-keep : (ws ts : List Family) → apart ws ts ≡ true → (l : List (OrderOn Name)) → writes (among ws) l ≡ true → (s : State) → Holds ts s → Holds ts (run l s)
   holds-keep ws ts a l w s h t e i j x y = keep (among ws) l (at t i j) s w (apart-listed ws ts a t e) ∙ h t e i j x y
 
-  pub holds-part : (ts us : List Family) → part-of ts us ≡ true → (s : State) → Holds ts s → Holds us s
+  pub holds-part : (ts us : List Family) → partOf ts us ≡ true → (s : State) → Holds ts s → Holds us s
   holds-part ts us a s h t e = h t (part-listed ts us a t e)
 
   pub holds-add : (u : Family) (ts : List Family) (s : State) → ((i j : ℕ) → i < T .rows u → j < T .columns u → s (at u i j) ≡ T .value u i j) → Holds ts s → Holds (u ∷ ts) s
@@ -99,12 +99,12 @@ module _ (T : Tables) where
   then {x} {y} p q = record { done = λ s h. rw (named-run-append x y s) (q .done (run x s) (p .done s h)) }
 
   -- less may be claimed
-  pub step-part : {ts us : List Family} {x : List (OrderOn Name)} (vs : List Family) → Step ts us x → part-of us vs ≡ true → Step ts vs x
+  pub step-part : {ts us : List Family} {x : List (OrderOn Name)} (vs : List Family) → Step ts us x → partOf us vs ≡ true → Step ts vs x
   step-part {us = us} {x = x} vs p e = record { done = λ s h. holds-part us vs e (run x s) (p .done s h) }
 
   -- a phase is such a step from any families that it reads; those that it writes besides its own are given up
   pub phase-step : {reads : List Family} {u : Family} {ws : List Family} {l : List (OrderOn Name)} (ts : List Family) → Phase reads u ws l
-      → part-of ts reads ≡ true → Step ts (u ∷ except (u ∷ ws) ts) l
+      → partOf ts reads ≡ true → Step ts (u ∷ except (u ∷ ws) ts) l
   phase-step {reads} {u} {ws} {l} ts p e = record {
     done = λ s h. holds-add u (except (u ∷ ws) ts) (run l s) (p .fills s (holds-part ts reads e s h))
         (λ t f i j a b.
@@ -119,8 +119,8 @@ abbrev pub touches : Family → ℕ → List Family → Name → Bool
 touches u i ws c = among ws c || (eqb (number u) (number (family c)) && eqb i (row c))
 
 -- cell i, j of family u, and the families ws
-abbrev pub touches-cell : Family → ℕ → ℕ → List Family → Name → Bool
-touches-cell u i j ws c = among ws c || same (at u i j) c
+abbrev pub touchesCell : Family → ℕ → ℕ → List Family → Name → Bool
+touchesCell u i j ws c = among ws c || same (at u i j) c
 
 touches-family : (u : Family) (ws : List Family) (i : ℕ) (l : List (OrderOn Name)) → writes (touches u i ws) l ≡ true → writes (among (u ∷ ws)) l ≡ true
 touches-family u ws i l h = writes-more (touches u i ws) (among (u ∷ ws)) (λ c. go (among ws c) (eqb (number u) (number (family c))) (eqb i (row c))) l h
@@ -131,8 +131,8 @@ touches-family u ws i l h = writes-more (touches u i ws) (among (u ∷ ws)) (λ 
     go false true z e = refl
     go false false z e = e
 
-touches-row : (u : Family) (i j : ℕ) (ws : List Family) (l : List (OrderOn Name)) → writes (touches-cell u i j ws) l ≡ true → writes (touches u i ws) l ≡ true
-touches-row u i j ws l h = writes-more (touches-cell u i j ws) (touches u i ws) each l h
+touches-row : (u : Family) (i j : ℕ) (ws : List Family) (l : List (OrderOn Name)) → writes (touchesCell u i j ws) l ≡ true → writes (touches u i ws) l ≡ true
+touches-row u i j ws l h = writes-more (touchesCell u i j ws) (touches u i ws) each l h
   where
     go : (x y z w : Bool) → x || (y && (z && w)) ≡ true → x || (y && z) ≡ true
     go true y z w e = refl
@@ -140,11 +140,11 @@ touches-row u i j ws l h = writes-more (touches-cell u i j ws) (touches u i ws) 
     go false true false w e = e
     go false false z w e = e
 
-    each : (c : Name) → touches-cell u i j ws c ≡ true → touches u i ws c ≡ true
+    each : (c : Name) → touchesCell u i j ws c ≡ true → touches u i ws c ≡ true
     each (at t a b) = go (among ws (at t a b)) (eqb (number u) (number t)) (eqb i a) (eqb j b)
 
 -- orders that write only families ws
-pub touches-among : (u : Family) (i : ℕ) (vs ws : List Family) → part-of ws vs ≡ true → (l : List (OrderOn Name)) → writes (among vs) l ≡ true → writes (touches u i ws) l ≡ true
+pub touches-among : (u : Family) (i : ℕ) (vs ws : List Family) → partOf ws vs ≡ true → (l : List (OrderOn Name)) → writes (among vs) l ≡ true → writes (touches u i ws) l ≡ true
 touches-among u i vs ws h l e = writes-more (among vs) (touches u i ws) (λ c a. rw (part-listed ws vs h (family c) a)) l e
 
 module _ (T : Tables) (reads : List Family) (u : Family) (ws : List Family) (clear : apart (u ∷ ws) reads ≡ true) (new : oneOf ws u ≡ false) where
@@ -174,14 +174,14 @@ module _ (T : Tables) (reads : List Family) (u : Family) (ws : List Family) (cle
       fill-after [] f (Holds T reads) refl touch (λ s h. h) (λ i t _. holds-keep T (u ∷ ws) reads clear (f i) (touches-family u ws i (f i) (touch i)) t) value
 
   -- turn i, j writes cell i, j of the family
-  pub fill-cells : (g : ℕ → ℕ → List (OrderOn Name)) → ((i j : ℕ) → writes (touches-cell u i j ws) (g i j) ≡ true)
+  pub fill-cells : (g : ℕ → ℕ → List (OrderOn Name)) → ((i j : ℕ) → writes (touchesCell u i j ws) (g i j) ≡ true)
       → ((i j : ℕ) (t : State) → i < T .rows u → j < T .columns u → Holds T reads t → run (g i j) t (at u i j) ≡ T .value u i j)
       → Phase T reads u ws (loop (T .rows u) (λ i. loop (T .columns u) (g i)))
   fill-cells g touch value =
       fill-rows (λ i. loop (T .columns u) (g i)) (λ i. writes-loop _ (T .columns u) (g i) (λ j _. touches-row u i j ws (g i j) (touch i j)))
       (λ i j t a b h.
       loop-only (T .columns u) (g i) (at u i j) t j b
-      (λ k r _ ne. keep (touches-cell u i k ws) (g i k) (at u i j) r (touch i k) (rw (new, eqb-same (number u), eqb-same i, ne-eqb k j ne)))
+      (λ k r _ ne. keep (touchesCell u i k ws) (g i k) (at u i j) r (touch i k) (rw (new, eqb-same (number u), eqb-same i, ne-eqb k j ne)))
       ∙ value i j (run (loop j (g i)) t) a b
       (holds-keep T (u ∷ ws) reads clear (loop j (g i)) (writes-loop _ j (g i) (λ k _. touches-family u ws i (g i k) (touches-row u i k ws (g i k) (touch i k)))) t h))
 

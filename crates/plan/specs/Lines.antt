@@ -179,11 +179,12 @@ module _ (B : Book) (sound : Sound B) where
       let lb : b < B .m = line-ends (B .m) l h .1 in
       let small : (S : ℕ) → x S ≤ amountLimit = slack-small B sound l in
       let fits : (S : ℕ) → S < 2 ^ B .m → takenOf B x a b S ≤ x S = λ S _. taken-slack B sound l S h in
-      let first : HoldsSlacks x l a b la lb small fits (run (restBlock (B .n) (B .m) a b) t) × (run (restBlock (B .n) (B .m) a b) t (Temporary 2) ≡ restOf B x a b)
-      = rest-value x l a b la lb small fits t (i .0, i .1) in
-      let r : (run (takeBlock (B .n) (B .m) l a b) (run (restBlock (B .n) (B .m) a b) t) (Flow l) ≡ flowOf B x a b) × ((S : ℕ) → S < 2 ^ B .m → run (takeBlock (B .n) (B .m) l a b) (run (restBlock (B .n) (B .m) a b) t) (Slack S) ≡ x S - takenOf B x a b S)
-      = flow-value x l a b la lb small fits (run (restBlock (B .n) (B .m) a b) t) (first .0) (first .1) in
-      let e : run (lineBlock (B .n) (B .m) l) t ≡ run (takeBlock (B .n) (B .m) l a b) (run (restBlock (B .n) (B .m) a b) t) = named-run-append (restBlock (B .n) (B .m) a b) (takeBlock (B .n) (B .m) l a b) t in (
+      let rested : State = run (restBlock (B .n) (B .m) a b) t in
+      let taken : State = run (takeBlock (B .n) (B .m) l a b) rested in
+      let first : HoldsSlacks x l a b la lb small fits rested × (rested (Temporary 2) ≡ restOf B x a b) = rest-value x l a b la lb small fits t (i .0, i .1) in
+      let r : (taken (Flow l) ≡ flowOf B x a b) × ((S : ℕ) → S < 2 ^ B .m → taken (Slack S) ≡ x S - takenOf B x a b S)
+      = flow-value x l a b la lb small fits rested (first .0) (first .1) in
+      let e : run (lineBlock (B .n) (B .m) l) t ≡ taken = named-run-append (restBlock (B .n) (B .m) a b) (takeBlock (B .n) (B .m) l a b) t in (
         holds-keep (cellTables B) (Flows ∷ Temporaries ∷ Slacks ∷ []) lineReads refl (lineBlock (B .n) (B .m) l) (line-frame (B .n) (B .m) l a b) t (i .0),
         λ S c. ap (λ (w : State). w (Slack S)) e ∙ r .1 S c,
         λ q c. go q (eq-or-lt-of-le (le-of-suc-le-suc c)) (ap (λ (w : State). w (Flow l)) e ∙ r .0)

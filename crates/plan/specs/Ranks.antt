@@ -73,7 +73,8 @@ module _ (B : Book) (sound : Sound B) where
   -- the gains of all pools, from the test's outcome
   gain-value : (i j p : ℕ) → p < B .m → (t : State) → run (loop (B .m) (gainTurn i j)) t (SizeBefore i p) ≡ plus (t (SizeBefore i p)) (times (t (Temporary 0)) (t (PoolSize j p)))
   gain-value i j p l t =
-      let own : (run (loop (B .m) (gainTurn i j)) t (SizeBefore i p) ≡ run (gainTurn i j p) (run (loop p (gainTurn i j)) t) (SizeBefore i p)) × (run (loop p (gainTurn i j)) t (SizeBefore i p) ≡ t (SizeBefore i p))
+      let earlier : State = run (loop p (gainTurn i j)) t in
+      let own : (run (loop (B .m) (gainTurn i j)) t (SizeBefore i p) ≡ run (gainTurn i j p) earlier (SizeBefore i p)) × (earlier (SizeBefore i p) ≡ t (SizeBefore i p))
       = loop-own (B .m) (gainTurn i j) (SizeBefore i p) t p l (λ q r ne. rw (eqb-same i, ne-eqb q p ne)) in
       own .0 ∙ rw (
         eqb-same i,

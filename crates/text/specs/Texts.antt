@@ -69,13 +69,18 @@ finished-here word s stored h l =
 
 -- ---- The rest of the text
 
-reads-from : (text word : List ℕ) (s : Stage) (stored : List ℤ) → Held s → length stored ≡ tableNumbers
+-- a text that is read from within a word gives what the words left continue to
+abbrev ReadsFrom : (text word : List ℕ) (s : Stage) (stored : List ℤ) → Type 0
+ReadsFrom text word s stored = Held s → length stored ≡ tableNumbers
     → finished (fed (inWord (wordFrom Empty word) s stored) text) ≡ continued s stored (wordsFrom word text)
+
+reads-from : (text word : List ℕ) (s : Stage) (stored : List ℤ) → ReadsFrom text word s stored
 unfolding fed wordsFrom wordEnded wordFrom
 reads-from [] word s stored h l = finished-here word s stored h l
 reads-from (byte ∷ text) word s stored h l = go (decided s) refl (blank byte) refl (reads-from text)
   where
-    go : (t : Bool) → decided s ≡ t → (u : Bool) → blank byte ≡ u → ((word′ : List ℕ) (s′ : Stage) (stored′ : List ℤ) → Held s′ → length stored′ ≡ tableNumbers → finished (fed (inWord (wordFrom Empty word′) s′ stored′) text) ≡ continued s′ stored′ (wordsFrom word′ text)) → finished (fed (inWord (wordFrom Empty word) s stored) (byte ∷ text)) ≡ continued s stored (wordsFrom word (byte ∷ text))
+    go : (t : Bool) → decided s ≡ t → (u : Bool) → blank byte ≡ u → ((word′ : List ℕ) (s′ : Stage) (stored′ : List ℤ) → ReadsFrom text word′ s′ stored′)
+        → finished (fed (inWord (wordFrom Empty word) s stored) (byte ∷ text)) ≡ continued s stored (wordsFrom word (byte ∷ text))
     go true o u b onward =
         ap finished (decided-stays (byte ∷ text) (inWord (wordFrom Empty word) s stored) o) ∙ decided-finished (wordFrom Empty word) s stored _ o
     go false o true b onward =

@@ -217,7 +217,8 @@ module _ (N : Network) (ok : SoundNetwork N) (x : ℕ → ℕ) where
             h (S ∩ R),
             demand-modular N S R,
             amountIn-modular N x S R,
-            lines-submodular-at N (low N x k) (high N x k) S R k (N .capacity k) l (omega (arith, low-open N x k k (omega arith), high-open N x k k (omega arith))) (e .1) (e .2) p q (λ j r. low-le-high N x k j),
+            lines-submodular-at N (low N x k) (high N x k) S R k (N .capacity k) l
+                (omega (arith, low-open N x k k (omega arith), high-open N x k k (omega arith))) (e .1) (e .2) p q (λ j r. low-le-high N x k j),
           )
 
   balance-next : (k : ℕ) → k < N .lines → SlackBalance N x k → SlackBalance N x (suc k)

@@ -87,7 +87,11 @@ put-groups-returns-3 t c =
     let p = c .before .before in
     let s = c .before .before .before .before .before .before .before .args in
     let e = several t (c .before .before .before .before) in
-    (p .put-groups .ensures .0 ∙ omega (arith, ap length e), p .put-groups .ensures .1 ∙ ap (λ (n : ℕ). sets (set (s .out .now) (s .at) (s .v % 128 + 128)) n (groups (s .g - 1) (s .v / 128))) (add-one (s .at)) ∙ ap (sets (s .out .now) (s .at)) (sym e))
+    let stored =
+    p .put-groups .ensures .1
+    ∙ ap (λ (n : ℕ). sets (set (s .out .now) (s .at) (s .v % 128 + 128)) n (groups (s .g - 1) (s .v / 128))) (add-one (s .at))
+    ∙ ap (sets (s .out .now) (s .at)) (sym e) in
+    (p .put-groups .ensures .0 ∙ omega (arith, ap length e), stored)
 
 pub +put-groups-spec : {M : Type 1} → statement M
 +put-groups-spec =

@@ -42,7 +42,9 @@ read-groups-returns-2 t c = no-bytes _ _ _ _ (c .before .if1 .left) (c .if2 .tak
 -- a byte is there
 here : (t : ℕ) (c : read-groups-lts.Else2 (read-groups-below t, read-groups.Post) (read-groups-at t) read-groups.Post) →
     let a = c .before .before .before .args in
-    readGroups (a .g) (a .first) (drop (a .at) (a .bytes .now)) ≡ cond (ltb (getD (a .bytes .now) (a .at) 0) 128) (lastGroup (a .first) (getD (a .bytes .now) (a .at) 0)) (moreGroups (getD (a .bytes .now) (a .at) 0) (readGroups (a .g - 1) false (drop (a .at + 1) (a .bytes .now))))
+    let x = getD (a .bytes .now) (a .at) 0 in
+    readGroups (a .g) (a .first) (drop (a .at) (a .bytes .now))
+    ≡ cond (ltb x 128) (lastGroup (a .first) x) (moreGroups x (readGroups (a .g - 1) false (drop (a .at + 1) (a .bytes .now))))
 here t c = let a = c .before .before .before .args in a-byte (a .g) (a .first) (a .bytes .now) (a .at) (c .before .if1 .left) (c .if2 .left)
 
 -- it is not the last group's

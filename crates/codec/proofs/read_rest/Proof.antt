@@ -19,7 +19,8 @@ whole d k next = found (Constant d k) next
 cast-t16 : tie.Need-cast-t16
 cast-t16 c =
     let a = c .before .before .before .before .before .before .args in
-    omega (arith, constant-below (a .bytes .now) (a .at) _ _ (answer-found (a .start) (constantAt (a .bytes .now) (a .at)) _ _ (sym (ap numberAnswer (c .before .k .given .1)) ∙ c .before .before .before .read-constant .ensures)))
+    let answer = sym (ap numberAnswer (c .before .k .given .1)) ∙ c .before .before .before .read-constant .ensures in
+    omega (arith, constant-below (a .bytes .now) (a .at) _ _ (answer-found (a .start) (constantAt (a .bytes .now) (a .at)) _ _ answer))
 
 returns : tie.Need-returns
 unfolding restAt

@@ -69,8 +69,9 @@ returns c =
     let q = c .before .before in
     let l = q .before .before .before .before .before in
     let a = l .before .args in
+    let refused = turned-away (judged q) (c .before .is-accepted .ensures) (c .if1 .taken) in
     judged q
-    ∙ sym (l .loop .inv .1 ∙ search-stops (a .n) (bidAt (table (a .n) (a .m) (a .bids .now))) (l .loop .i) (q .before .before .before .before .loop-test .taken) (turned-away (judged q) (c .before .is-accepted .ensures) (c .if1 .taken)))
+    ∙ sym (l .loop .inv .1 ∙ search-stops (a .n) (bidAt (table (a .n) (a .m) (a .bids .now))) (l .loop .i) (q .before .before .before .before .loop-test .taken) refused)
 
 loop-again : tie.Need-loop-again Inv-loop μ-loop
 loop-again c =

@@ -27,7 +27,8 @@ put-signed-requires c κs =
     let s = c .before .before .before .before .before .before .before in
     same-room _ _ (sym (number s)) (room-first (decimalZ (s .args .v)) newline _ _ (number-room (c .before .before .before)))
 
-signed : (c : tie.After-put-signed) → Put (c .before .before .before .before .put-word .last .0) (c .before .before .before .before .put-word .result) (decimalZ (c .before .before .before .before .before .before .before .before .args .v)) (c .put-signed .last .0) (c .put-signed .result)
+signed : (c : tie.After-put-signed) → let w = c .before .before .before .before in
+    Put (w .put-word .last .0) (w .put-word .result) (decimalZ (w .before .before .before .before .args .v)) (c .put-signed .last .0) (c .put-signed .result)
 signed c = same-bytes (number (c .before .before .before .before .before .before .before .before)) (c .put-signed .ensures)
 
 put-word-requires-2 : tie.Need-put-word-requires-2

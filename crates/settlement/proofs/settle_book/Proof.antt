@@ -67,7 +67,10 @@ returns-3 c =
     let welfare = back w64 (cleared .clear .result .welfare) (l .before .struct-told .given .1 .1 .0 .1) ∙ given .1 .1 .0 in
     let text = accepted-text (bookAt s) (s .args .sheet .now) _ yes (given .1 .1 .1) _ welfare in (
       l .list-sheet .ensures .0 ∙ size-of (readable (bookAt s)) (length (s .args .sheet .now)) _ (s .args .out .now) text,
-      (sheet-cleared (bookAt s) (length (s .args .out .now)) (s .args .sheet .now) _ (roomy (cleared .before .before)) (given .1 .1 .1), l .list-sheet .ensures .1 ∙ slice-of (readable (bookAt s)) (length (s .args .sheet .now)) _ (s .args .out .now) text),
+      (
+        sheet-cleared (bookAt s) (length (s .args .out .now)) (s .args .sheet .now) _ (roomy (cleared .before .before)) (given .1 .1 .1),
+        l .list-sheet .ensures .1 ∙ slice-of (readable (bookAt s)) (length (s .args .sheet .now)) _ (s .args .out .now) text,
+      ),
     )
 
 pub settle-book-spec : {M : Type 1} → statement M
