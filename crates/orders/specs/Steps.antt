@@ -97,9 +97,9 @@ module _ (ps : List Phase) (x : ℕ) where
   phases-none = record { phases = omega arith; left = omega arith }
 
   -- counted from the start of the first phase
-  pub from-start : phaseStart ps 0 + x ≡ x
+  pub first-phase-start : phaseStart ps 0 + x ≡ x
   unfolding phaseStart sumTo
-  from-start = omega arith
+  first-phase-start = omega arith
 
   -- past the last phase is past the list's end
   pub phases-all : (y k : ℕ) → PhasesPassed ps x y k → length ps ≤ k → length (flat ps) ≤ x

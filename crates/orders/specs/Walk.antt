@@ -28,10 +28,18 @@ kindNumber multiplying = 3
 kindNumber comparing = 4
 kindNumber equating = 5
 
--- an order's numbers: its kind, then family, row and column of each cell, a constant in the place of the first that is read
+-- the numbers of a constant: kind 0, family, row and column of its target, and what it is
+abbrev pub flatConstant : (t i j v : ℕ) → NamedOrder
+flatConstant t i j v = (0, t, i, j, v, 0, 0, 0, 0, 0)
+
+-- of an operation: its kind, then family, row and column of each cell
+abbrev pub flatOperation : Operation → (t i j u k l w x y : ℕ) → NamedOrder
+flatOperation op t i j u k l w x y = (kindNumber op, t, i, j, u, k, l, w, x, y)
+
+-- an order's numbers
 abbrev pub flatOf : OrderOn Name → NamedOrder
-flatOf (constant (at t i j) v) = (0, number t, i, j, v, 0, 0, 0, 0, 0)
-flatOf (operate op (at t i j) (at u k l) (at w x y)) = (kindNumber op, number t, i, j, number u, k, l, number w, x, y)
+flatOf (constant (at t i j) v) = flatConstant (number t) i j v
+flatOf (operate op (at t i j) (at u k l) (at w x y)) = flatOperation op (number t) i j (number u) k l (number w) x y
 
 -- the name of a cell by its family's number
 abbrev pub nameAt : ℕ → ℕ → ℕ → Name

@@ -7,7 +7,7 @@ use Rattle.definitions.specs.Limits.{greatestPositive}
 use Rattle.plan.specs.Table.{Phase, rankPhase}
 use Rattle.orders.specs.declared.names.NamedOrder.{NamedOrder}
 use Rattle.orders.specs.Families.{numbers-at}
-use Rattle.orders.specs.Walk.{nameAt}
+use Rattle.orders.specs.Walk.{nameAt, flatConstant}
 use Rattle.orders.specs.Shaped.{sum-at, one-of, in-part, of-part}
 use Rattle.orders.proofs.table.ranks.Statement.{statement}
 use Rattle.orders.proofs.table.ranks.Tie as tie
@@ -36,7 +36,7 @@ returns-2 : tie.Need-returns-2
 returns-2 c =
     let s = c .before .before in
     let a = s .args in
-    numbers-at NamedOrder (λ u _. (0, u, a .i, 0, greatestPositive, 0, 0, 0, 0, 0)) (a .u) (a .u) (s .pre .1 .1 .0) (s .pre .1 .1 .0)
+    numbers-at NamedOrder (λ u _. flatConstant u (a .i) 0 greatestPositive) (a .u) (a .u) (s .pre .1 .1 .0) (s .pre .1 .1 .0)
     ∙ one-of (here s) (a .i) (a .q) 1 (a .j) (a .r) (c .if2 .taken) (s .pre .1 .1 .1) refl
 
 cost-turn-requires : tie.Need-cost-turn-requires
