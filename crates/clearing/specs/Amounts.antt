@@ -7,7 +7,7 @@ use native.Mathlib.Nat.{mul-le-mul-right}
 use lib.ListN.{length, getD, take, drop, length-take, length-drop}
 use lib.Seq.{getD-take, getD-drop}
 use lib.IntN.{ℤ, pos, natAbs}
-use Rattle.definitions.specs.Limits.{bidLimit, poolLimit, priceLimit, quantityLimit, cellCount, bidNumbers}
+use Rattle.definitions.specs.Limits.{bidLimit, poolLimit, priceLimit, quantityLimit, cellCount, bidNumbers, pricePlace}
 use Rattle.definitions.specs.Book.{book}
 use Rattle.definitions.specs.Sheet.{firstResult, amountCell}
 use Rattle.definitions.specs.Clearing.{welfare}
@@ -20,7 +20,7 @@ pub record AmountsWithin (n m : ℕ) (bids : List ℤ) (s : List ℕ) : Type 0 w
   pub few-pools : m ≤ poolLimit
   pub table : length bids ≡ bidNumbers * n
   pub cells : length s ≡ cellCount
-  pub prices : (i : ℕ) → i < n → natAbs (getD bids (bidNumbers * i + 1) (pos 0)) ≤ priceLimit
+  pub prices : (i : ℕ) → i < n → natAbs (getD bids (bidNumbers * i + pricePlace) (pos 0)) ≤ priceLimit
   pub amounts : (i : ℕ) → i < n → cell s (amountCell n m i) ≤ quantityLimit
 
 -- the cells of the inputs and the amounts are on the sheet
@@ -43,7 +43,7 @@ module _ (n m : ℕ) (bids : List ℤ) (s : List ℕ) (within : AmountsWithin n 
   -- what the sum of the welfare asks of its two tables
   pub part-ready :
       (length bids ≡ bidNumbers * length part) × (length part ≤ bidLimit)
-      × ((i : ℕ) → i < length part → natAbs (getD bids (bidNumbers * i + 1) (pos 0)) ≤ priceLimit)
+      × ((i : ℕ) → i < length part → natAbs (getD bids (bidNumbers * i + pricePlace) (pos 0)) ≤ priceLimit)
       × ((i : ℕ) → i < length part → getD part i 0 ≤ quantityLimit)
   part-ready = (
     omega (arith, part-length, within .table),

@@ -10,7 +10,7 @@ use lib.ListN.{length, getD, replicate, length-replicate, getD-replicate, List·
 use lib.IntN.{ℤ, pos, negsuc, negℤ, natAbs, _+ℤ_}
 use lib.Signed.{leZ}
 use borrow.Author.Tests.{eq-eqb, eqb-true, ne-eqb, le-ltb, leb-true, le-leb}
-use Rattle.definitions.specs.Limits.{bidLimit, poolLimit, priceLimit, quantityLimit, capacityLimit, cellCount, bidNumbers}
+use Rattle.definitions.specs.Limits.{bidLimit, poolLimit, priceLimit, quantityLimit, capacityLimit, cellCount, bidNumbers, pricePlace, quantityPlace}
 use Rattle.definitions.specs.Arithmetic.{within, eqZ}
 use Rattle.definitions.specs.Book.{Book, book, pool, price, quantity, size, inPool, capacityEntry, capacity}
 use Rattle.definitions.specs.Answers.{none, first, numbered}
@@ -223,16 +223,16 @@ bids-length (suc n) = omega (arith, bids-length n)
 -- the numbers of each bid
 numbers-of : (n i : ℕ) → i < n
     → (getD (bidsOf n) (bidNumbers * i) (pos 0) ≡ pos 1)
-    × (getD (bidsOf n) (bidNumbers * i + 1) (pos 0) ≡ pos 0)
-    × (getD (bidsOf n) (bidNumbers * i + 2) (pos 0) ≡ pos 1)
+    × (getD (bidsOf n) (bidNumbers * i + pricePlace) (pos 0) ≡ pos 0)
+    × (getD (bidsOf n) (bidNumbers * i + quantityPlace) (pos 0) ≡ pos 1)
 unfolding bidsOf
 numbers-of zero i l = absurd (omega arith)
 numbers-of (suc n) zero l = (refl, refl, refl)
 numbers-of (suc n) (suc i) l =
     let rest = numbers-of n i (omega arith) in
     let first : bidNumbers * suc i ≡ suc (suc (suc (bidNumbers * i))) = omega arith in
-    let second : bidNumbers * suc i + 1 ≡ suc (suc (suc (bidNumbers * i + 1))) = omega arith in
-    let third : bidNumbers * suc i + 2 ≡ suc (suc (suc (bidNumbers * i + 2))) = omega arith in
+    let second : bidNumbers * suc i + pricePlace ≡ suc (suc (suc (bidNumbers * i + pricePlace))) = omega arith in
+    let third : bidNumbers * suc i + quantityPlace ≡ suc (suc (suc (bidNumbers * i + quantityPlace))) = omega arith in
     (rw first (rest .0), rw second (rest .1), rw third (rest .2))
 
 books-sound : (n m : ℕ) → n ≤ bidLimit → 0 < m → m ≤ poolLimit → Sound (bookOf n m)

@@ -1,7 +1,7 @@
 -- What is known of counts, lengths and cells that opening does not refuse, and the slice that it leaves.
 use Prim.Native.Nat.{ℕ, _*_, _≤_, _<_}
-use mathlib.Core.Path.{_≡_, sym, ap, _∙_}
-use mathlib.Core.Bool.{Bool, true, false, _&&_}
+use mathlib.Core.Path.{_≡_, sym, ap}
+use mathlib.Core.Bool.{false, _&&_}
 use mathlib.Core.List.{List}
 use native.Mathlib.Nat.{mul-le-mul-right}
 use lib.Dec.{eqb}
@@ -9,12 +9,12 @@ use lib.IntN.{ℤ}
 use lib.ListN.{length}
 use borrow.Author.Tests.{eqb-true}
 use Rattle.definitions.specs.Limits.{poolLimit, cellCount, modulus}
-use Rattle.definitions.specs.Answers.{Refusal, none, first, isNone}
+use Rattle.definitions.specs.Answers.{Refusal, none, first, unless, isNone}
 use Rattle.definitions.specs.Sheet.{resultCount}
 use Rattle.definitions.specs.Machine.{cell}
 use Rattle.definitions.specs.Calls.{countsRefusal, lengthRefusal, cellsRefusal, openRefusal, openedResults, openSlice}
 use Rattle.laws.specs.Tests.{and-left, and-right}
-use Rattle.laws.specs.Refusal.{test-passed, first-left, first-right, is-none, unless-none, unless-refused}
+use Rattle.laws.specs.Refusal.{test-passed, first-left, first-right, unless-refused}
 use Rattle.laws.specs.Sizes.{Counts, counted}
 use Rattle.judging.specs.Cells.{cells-below}
 
@@ -49,20 +49,13 @@ openable n m sheet results e =
       below = cells-below sheet (first-right byLengths byCells after);
     }
 
--- ---- The slice after the call: r is what the verdict states, and t what `is_accepted` says of it
+-- ---- the slice after the call
 
-module _ (n m : ℕ) (sheet : List ℕ) (out : List ℤ) (r : Refusal) (t : Bool) (stated : r ≡ openRefusal n m sheet (length out)) (tested : t ≡ isNone r) where
-  -- t is the test of the definition
-  test : (v : Bool) → t ≡ v → isNone (openRefusal n m sheet (length out)) ≡ v
-  test v e = ap isNone (sym stated) ∙ sym tested ∙ e
-
-  pub when-accepted : t ≡ true → Openable n m sheet (length out)
-  when-accepted e = openable n m sheet (length out) (is-none (openRefusal n m sheet (length out)) (test true e))
-
-  pub slice-written : t ≡ true → openedResults n m sheet ≡ openSlice n m sheet out
+module _ (n m : ℕ) (sheet : List ℕ) (out : List ℤ) where
+  pub slice-written : openRefusal n m sheet (length out) ≡ none → openedResults n m sheet ≡ openSlice n m sheet out
   unfolding openSlice
-  slice-written e = sym (unless-none (openRefusal n m sheet (length out)) (openedResults n m sheet) out (test true e))
+  slice-written e = sym (ap (λ (r : Refusal). unless r (openedResults n m sheet) out) e)
 
-  pub slice-kept : t ≡ false → out ≡ openSlice n m sheet out
+  pub slice-kept : isNone (openRefusal n m sheet (length out)) ≡ false → out ≡ openSlice n m sheet out
   unfolding openSlice
-  slice-kept e = sym (unless-refused (openRefusal n m sheet (length out)) (openedResults n m sheet) out (test false e))
+  slice-kept e = sym (unless-refused (openRefusal n m sheet (length out)) (openedResults n m sheet) out e)

@@ -98,9 +98,9 @@ pub fn open(n: usize, m: usize, sheet: &[u32], out: &mut [i32]) -> Verdict
     ensures results { λ _. ⌜ now (out .exit) ≡ openSlice n m (now (sheet .entry)) (now (out .entry)) ⌝ }
 {
     let verdict = judge_opening(n, m, sheet, out.len());
-    if is_accepted(verdict) {
-        copy_results(n, m, sheet, out);
+    if !is_accepted(verdict) {
         return verdict;
     }
+    copy_results(n, m, sheet, out);
     verdict
 }

@@ -6,7 +6,7 @@ use Prim.Native.Nat.{ℕ, zero, suc, _+_, _-_, _*_, _<_}
 use native.Mathlib.Omega.{arith}
 use lib.ListN.{length}
 use lib.Arith.{digits-lt}
-use Rattle.definitions.specs.Limits.{bidNumbers}
+use Rattle.definitions.specs.Limits.{bidNumbers, pricePlace, quantityPlace}
 use Rattle.definitions.specs.Arithmetic.{sumTo, residue}
 use Rattle.definitions.specs.Book.{Book, capacity}
 use Rattle.definitions.specs.Sheet.{sealedSheet}
@@ -31,8 +31,8 @@ module _ (B : Book) (sound : Sound B) where
   bid-cells : (i j : ℕ) → i < B .n → j < bidNumbers → sealedState (at Bids i j) ≡ bidCell B i j
   unfolding sumTo
   bid-cells i zero a b = at-cell (bidNumbers * i) (omega arith) ∙ sealed-bid B (bidNumbers * i) (omega (arith, sound .bid-table))
-  bid-cells i (suc zero) a b = at-cell (bidNumbers * i + 1) (omega arith) ∙ sealed-bid B (bidNumbers * i + 1) (omega (arith, sound .bid-table))
-  bid-cells i (suc (suc zero)) a b = at-cell (bidNumbers * i + 2) (omega arith) ∙ sealed-bid B (bidNumbers * i + 2) (omega (arith, sound .bid-table))
+  bid-cells i (suc zero) a b = at-cell (bidNumbers * i + pricePlace) (omega arith) ∙ sealed-bid B (bidNumbers * i + pricePlace) (omega (arith, sound .bid-table))
+  bid-cells i (suc (suc zero)) a b = at-cell (bidNumbers * i + quantityPlace) (omega arith) ∙ sealed-bid B (bidNumbers * i + quantityPlace) (omega (arith, sound .bid-table))
   bid-cells i (suc (suc (suc j))) a b = absurd (omega arith)
 
   capacity-cells : (a b : ℕ) → a < B .m → b < B .m → sealedState (at Capacities a b) ≡ capacity B a b

@@ -41,10 +41,10 @@ fn judge_run(sheet: &[u32], bytes: &[u8]) -> Verdict
         return Verdict::Length;
     }
     let cells = judge_cells(sheet);
-    if is_accepted(cells) {
-        return judge_bytes(bytes);
+    if !is_accepted(cells) {
+        return cells;
     }
-    cells
+    judge_bytes(bytes)
 }
 
 // The orders of some bytes one after another, and their count; they end at an order that is refused.
@@ -75,9 +75,9 @@ pub fn run(sheet: &mut [u32], bytes: &[u8]) -> Ran
     ensures cells { λ _. ⌜ now (sheet .exit) ≡ runSheet (now (sheet .entry)) (now (bytes .entry)) ⌝ }
 {
     let verdict = judge_run(sheet, bytes);
-    if is_accepted(verdict) {
-        let orders = run_orders(sheet, bytes);
-        return Ran { verdict, orders };
+    if !is_accepted(verdict) {
+        return Ran { verdict, orders: 0 };
     }
-    Ran { verdict, orders: 0 }
+    let orders = run_orders(sheet, bytes);
+    Ran { verdict, orders }
 }

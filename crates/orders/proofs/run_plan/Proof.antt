@@ -11,12 +11,6 @@ use Rattle.orders.specs.Runs.{plan-stepped, plan-not-stepped}
 use Rattle.orders.proofs.run_plan.Statement.{statement}
 use Rattle.orders.proofs.run_plan.Tie as tie
 
-judge-counts-requires : tie.Need-judge-counts-requires
-judge-counts-requires c κs = search needs
-
-is-accepted-requires : tie.Need-is-accepted-requires
-is-accepted-requires c κs = search needs
-
 returns : tie.Need-returns
 returns c =
     let a = c .before .before .before .before .args in
@@ -35,9 +29,6 @@ run-phases-requires c κs = c .before .before .tables-of .ensures
 length-of-requires : tie.Need-length-of-requires
 length-of-requires c κs = c .before .before .before .before .before .before .tables-of .ensures
 
-same-length : tie.Need-same-length
-same-length c = search needs
-
 returns-2 : tie.Need-returns-2
 returns-2 c =
     let phases = c .before .before .before .before in
@@ -51,11 +42,11 @@ pub run-plan-spec : {M : Type 1} → statement M
 run-plan-spec =
     tie.close
     (tie.spec
-    judge-counts-requires
-    is-accepted-requires
+    (λ c κs. search needs)
+    (λ c κs. search needs)
     returns
     tables-of-requires
     run-phases-requires
     length-of-requires
-    same-length
+    (λ c. search needs)
     returns-2)

@@ -7,8 +7,5 @@ use Rattle.printing.proofs.from_integer.Tie as tie
 cast-result : tie.Need-cast-result
 cast-result c = widened-fits (c .fits .x)
 
-returns : tie.Need-returns
-returns c = search needs
-
 pub from-integer-spec : {M : Type 1} → statement M
-from-integer-spec = tie.close (tie.spec cast-result returns)
+from-integer-spec = tie.close (tie.spec cast-result (λ c. search needs))

@@ -11,49 +11,19 @@ Inv-loop name entries out₀ end₀ i₀ out end i = (i ≤ length entries) × (
 abbrev μ-loop : tie.MeasureT-loop
 μ-loop name entries out₀ end₀ i₀ out end i = length entries - i
 
-put-text-requires : tie.Need-put-text-requires Inv-loop μ-loop
-put-text-requires c κs = search needs
-
-loop-holds : tie.Need-loop-holds Inv-loop μ-loop
-loop-holds c = search needs
-
-shared-slice-read-from-byte : tie.Need-shared-slice-read-from-byte Inv-loop μ-loop
-shared-slice-read-from-byte c = search needs
-
-from-byte-requires : tie.Need-from-byte-requires Inv-loop μ-loop
-from-byte-requires c κs = search needs
-
-put-entry-requires : tie.Need-put-entry-requires Inv-loop μ-loop
-put-entry-requires c κs = search needs
-
-add-i : tie.Need-add-i Inv-loop μ-loop
-add-i c = search needs
-
-loop-less : tie.Need-loop-less Inv-loop μ-loop
-loop-less c = search needs
-
-loop-again : tie.Need-loop-again Inv-loop μ-loop
-loop-again c = search needs
-
-write-line-requires : tie.Need-write-line-requires Inv-loop μ-loop
-write-line-requires c κs = search needs
-
-returns : tie.Need-returns Inv-loop μ-loop
-returns c = search needs
-
 pub print-bytes-spec : {M : Type 1} → statement M
 print-bytes-spec =
     tie.close
     (tie.spec
     Inv-loop
     μ-loop
-    put-text-requires
-    loop-holds
-    shared-slice-read-from-byte
-    from-byte-requires
-    put-entry-requires
-    add-i
-    loop-less
-    loop-again
-    write-line-requires
-    returns)
+    (λ c κs. search needs)
+    (λ c. search needs)
+    (λ c. search needs)
+    (λ c κs. search needs)
+    (λ c κs. search needs)
+    (λ c. search needs)
+    (λ c. search needs)
+    (λ c. search needs)
+    (λ c κs. search needs)
+    (λ c. search needs))

@@ -11,53 +11,20 @@ Inv-loop name entries out₀ end₀ i₀ out end i = (i ≤ length entries) × (
 abbrev μ-loop : tie.MeasureT-loop
 μ-loop name entries out₀ end₀ i₀ out end i = length entries - i
 
-put-text-requires : tie.Need-put-text-requires Inv-loop μ-loop
-put-text-requires c κs = search needs
-
-loop-holds : tie.Need-loop-holds Inv-loop μ-loop
-loop-holds c = search needs
-
-mul-from-word : tie.Need-mul-from-word Inv-loop μ-loop
-mul-from-word c = search needs
-
-shared-slice-read-from-word : tie.Need-shared-slice-read-from-word Inv-loop μ-loop
-shared-slice-read-from-word c = search needs
-
-from-word-requires : tie.Need-from-word-requires Inv-loop μ-loop
-from-word-requires c κs = search needs
-
-put-entry-requires : tie.Need-put-entry-requires Inv-loop μ-loop
-put-entry-requires c κs = search needs
-
-add-i : tie.Need-add-i Inv-loop μ-loop
-add-i c = search needs
-
-loop-less : tie.Need-loop-less Inv-loop μ-loop
-loop-less c = search needs
-
-loop-again : tie.Need-loop-again Inv-loop μ-loop
-loop-again c = search needs
-
-write-line-requires : tie.Need-write-line-requires Inv-loop μ-loop
-write-line-requires c κs = search needs
-
-returns : tie.Need-returns Inv-loop μ-loop
-returns c = search needs
-
 pub print-words-spec : {M : Type 1} → statement M
 print-words-spec =
     tie.close
     (tie.spec
     Inv-loop
     μ-loop
-    put-text-requires
-    loop-holds
-    mul-from-word
-    shared-slice-read-from-word
-    from-word-requires
-    put-entry-requires
-    add-i
-    loop-less
-    loop-again
-    write-line-requires
-    returns)
+    (λ c κs. search needs)
+    (λ c. search needs)
+    (λ c. search needs)
+    (λ c. search needs)
+    (λ c κs. search needs)
+    (λ c κs. search needs)
+    (λ c. search needs)
+    (λ c. search needs)
+    (λ c. search needs)
+    (λ c κs. search needs)
+    (λ c. search needs))

@@ -9,11 +9,5 @@ use Rattle.printing.proofs.write_part.Tie as tie
 slice-aggregate-write-all : tie.Need-slice-aggregate-write-all
 slice-aggregate-write-all c = sym (length-take-le _ _ (omega arith))
 
-write-all-requires : tie.Need-write-all-requires
-write-all-requires c κs = search needs
-
-returns : tie.Need-returns
-returns c = search needs
-
 pub write-part-spec : {M : Type 1} → statement M
-write-part-spec = tie.close (tie.spec slice-aggregate-write-all write-all-requires returns)
+write-part-spec = tie.close (tie.spec slice-aggregate-write-all (λ c κs. search needs) (λ c. search needs))

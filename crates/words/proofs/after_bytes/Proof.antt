@@ -8,12 +8,6 @@ use borrow.Author.Needs.{needs}
 use Rattle.words.proofs.after_bytes.Statement.{statement}
 use Rattle.words.proofs.after_bytes.Tie as tie
 
-after-slice-requires : tie.Need-after-slice-requires
-after-slice-requires c κs = search needs
-
-add-result : tie.Need-add-result
-add-result c = search needs
-
 returns : tie.Need-returns
 returns c =
     let a = c .before .before .before .args in
@@ -25,17 +19,11 @@ add-are-bytes c =
     let e = c .before .after-slice .ensures in
     omega (arith, e, slice-end (s .args .input .now) (s .args .at) (omega (arith, e, c .if1 .left)), s .good .0 .0)
 
-are-bytes-requires : tie.Need-are-bytes-requires
-are-bytes-requires c κs = search needs
-
 returns-2 : tie.Need-returns-2
 returns-2 c =
     let a = c .before .before .before .before .before .args in
     let e = c .before .before .before .after-slice .ensures in
     e ∙ bytes-there (a .input .now) (a .at) (ap (λ (end : ℕ). areBytes (a .input .now) (a .at + 1) (end - (a .at + 1))) (sym e) ∙ sym (c .before .are-bytes .ensures) ∙ c .if2 .taken)
-
-add-result-2 : tie.Need-add-result-2
-add-result-2 c = search needs
 
 returns-3 : tie.Need-returns-3
 returns-3 c =
@@ -47,11 +35,11 @@ pub after-bytes-spec : {M : Type 1} → statement M
 after-bytes-spec =
     tie.close
     (tie.spec
-    after-slice-requires
-    add-result
+    (λ c κs. search needs)
+    (λ c. search needs)
     returns
     add-are-bytes
-    are-bytes-requires
+    (λ c κs. search needs)
     returns-2
-    add-result-2
+    (λ c. search needs)
     returns-3)

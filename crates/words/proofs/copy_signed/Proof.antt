@@ -22,33 +22,12 @@ abbrev μ-loop : tie.MeasureT-loop
 loop-holds : tie.Need-loop-holds Inv-loop μ-loop
 loop-holds c = (omega arith, refl, λ k h. absurd (omega (arith, h)))
 
-entry-requires : tie.Need-entry-requires Inv-loop μ-loop
-entry-requires c κs = search needs
-
-signed-word-requires : tie.Need-signed-word-requires Inv-loop μ-loop
-signed-word-requires c κs = search needs
-
-mul-x : tie.Need-mul-x Inv-loop μ-loop
-mul-x c = search needs
-
-slice-set-from-x : tie.Need-slice-set-from-x Inv-loop μ-loop
-slice-set-from-x c = search needs
-
-add-i : tie.Need-add-i Inv-loop μ-loop
-add-i c = search needs
-
-loop-less : tie.Need-loop-less Inv-loop μ-loop
-loop-less c = search needs
-
 loop-again : tie.Need-loop-again Inv-loop μ-loop
 loop-again c =
     let l = c .before .before .before .loop in
     let a = c .before .before .before .before .before .args in
     let s = length-set (l .places) (l .i) (toZ w32 (ofZ w32 (c .signed-word .result))) in
     (omega (arith, s), s ∙ l .inv .1, stored (pos 0) (λ (k : ℕ). signedWord (entryAt (a .input .now) (a .at) k)) (l .places) (l .i) (toZ w32 (ofZ w32 (c .signed-word .result))) (l .inv .2) (back w32 (c .signed-word .result) (c .signed-word .ok) ∙ c .signed-word .ensures ∙ ap signedWord (c .before .entry .ensures)) (omega arith))
-
-same-length : tie.Need-same-length Inv-loop μ-loop
-same-length c = search needs
 
 returns : tie.Need-returns Inv-loop μ-loop
 returns c = λ i h. c .before .loop .inv .2 i (omega (arith, h))
@@ -60,12 +39,12 @@ copy-signed-spec =
     Inv-loop
     μ-loop
     loop-holds
-    entry-requires
-    signed-word-requires
-    mul-x
-    slice-set-from-x
-    add-i
-    loop-less
+    (λ c κs. search needs)
+    (λ c κs. search needs)
+    (λ c. search needs)
+    (λ c. search needs)
+    (λ c. search needs)
+    (λ c. search needs)
     loop-again
-    same-length
+    (λ c. search needs)
     returns)

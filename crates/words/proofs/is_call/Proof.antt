@@ -5,12 +5,6 @@ use borrow.Author.Needs.{needs}
 use Rattle.words.proofs.is_call.Statement.{statement}
 use Rattle.words.proofs.is_call.Tie as tie
 
-after-slices-requires : tie.Need-after-slices-requires
-after-slices-requires c κs = search needs
-
-ends-at-requires : tie.Need-ends-at-requires
-ends-at-requires c κs = search needs
-
 returns : tie.Need-returns
 unfolding isCall
 returns c =
@@ -18,4 +12,4 @@ returns c =
     c .ends-at .ensures ∙ ap (endsAt (a .input .now)) (c .before .after-slices .ensures)
 
 pub is-call-spec : {M : Type 1} → statement M
-is-call-spec = tie.close (tie.spec after-slices-requires ends-at-requires returns)
+is-call-spec = tie.close (tie.spec (λ c κs. search needs) (λ c κs. search needs) returns)

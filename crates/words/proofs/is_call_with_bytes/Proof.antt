@@ -5,15 +5,6 @@ use borrow.Author.Needs.{needs}
 use Rattle.words.proofs.is_call_with_bytes.Statement.{statement}
 use Rattle.words.proofs.is_call_with_bytes.Tie as tie
 
-after-slices-requires : tie.Need-after-slices-requires
-after-slices-requires c κs = search needs
-
-after-bytes-requires : tie.Need-after-bytes-requires
-after-bytes-requires c κs = search needs
-
-ends-at-requires : tie.Need-ends-at-requires
-ends-at-requires c κs = search needs
-
 returns : tie.Need-returns
 unfolding isCallWithBytes
 returns c =
@@ -22,4 +13,4 @@ returns c =
 
 pub is-call-with-bytes-spec : {M : Type 1} → statement M
 is-call-with-bytes-spec =
-    tie.close (tie.spec after-slices-requires after-bytes-requires ends-at-requires returns)
+    tie.close (tie.spec (λ c κs. search needs) (λ c κs. search needs) (λ c κs. search needs) returns)

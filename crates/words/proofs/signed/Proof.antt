@@ -7,14 +7,8 @@ use borrow.Author.Needs.{needs}
 use Rattle.words.proofs.signed.Statement.{statement}
 use Rattle.words.proofs.signed.Tie as tie
 
-word-requires : tie.Need-word-requires
-word-requires c κs = search needs
-
-signed-word-requires : tie.Need-signed-word-requires
-signed-word-requires c κs = search needs
-
 returns : tie.Need-returns
 returns c = back w32 _ (c .signed-word .ok) ∙ c .signed-word .ensures ∙ ap signedWord (c .before .word .ensures)
 
 pub signed-spec : {M : Type 1} → statement M
-signed-spec = tie.close (tie.spec word-requires signed-word-requires returns)
+signed-spec = tie.close (tie.spec (λ c κs. search needs) (λ c κs. search needs) returns)

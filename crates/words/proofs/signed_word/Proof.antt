@@ -4,17 +4,8 @@ use borrow.Author.Needs.{needs}
 use Rattle.words.proofs.signed_word.Statement.{statement}
 use Rattle.words.proofs.signed_word.Tie as tie
 
-cast-result : tie.Need-cast-result
-cast-result c = search needs
-
 returns : tie.Need-returns
 returns c = low-word _ (c .if1 .taken)
-
-sub-result : tie.Need-sub-result
-sub-result c = search needs
-
-cast-result-2 : tie.Need-cast-result-2
-cast-result-2 c = search needs
 
 sub-result-2 : tie.Need-sub-result-2
 sub-result-2 c = high-fits _ (c .if1 .left)
@@ -24,4 +15,4 @@ returns-2 c = high-word _ (c .if1 .left)
 
 pub signed-word-spec : {M : Type 1} → statement M
 signed-word-spec =
-    tie.close (tie.spec cast-result returns sub-result cast-result-2 sub-result-2 returns-2)
+    tie.close (tie.spec (λ c. search needs) returns (λ c. search needs) (λ c. search needs) sub-result-2 returns-2)

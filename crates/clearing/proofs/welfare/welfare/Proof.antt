@@ -10,7 +10,7 @@ use mir.Syntax.{w32, w64}
 use mir.Val.{SFits, toZ, ofZ}
 use mir.Facts.{toZ-ofZ}
 use borrow.Author.Needs.{scaled-fits}
-use Rattle.definitions.specs.Limits.{priceLimit, bidNumbers}
+use Rattle.definitions.specs.Limits.{priceLimit, bidNumbers, pricePlace, quantityPlace}
 use Rattle.definitions.specs.Arithmetic.{sumZ}
 use Rattle.definitions.specs.Book.{Book, book}
 use Rattle.laws.specs.SignedTests.{back}
@@ -57,7 +57,7 @@ signed-value-requires c κs =
     let s = c .before .before .before .before .before .before in
     let i = c .before .before .before .before .loop .i in
     let l = c .before .before .before .loop-test .taken in (
-      subst (λ (z : ℤ). natAbs z ≤ priceLimit) (sym (back w32 (getD (s .args .bids .now) (bidNumbers * i + 1) (pos 0)) (c .before .before .price .given))) (s .pre .1 .1 .0 i l),
+      subst (λ (z : ℤ). natAbs z ≤ priceLimit) (sym (back w32 (getD (s .args .bids .now) (bidNumbers * i + pricePlace) (pos 0)) (c .before .before .price .given))) (s .pre .1 .1 .0 i l),
       s .pre .1 .1 .1 i l,
     )
 
@@ -78,8 +78,8 @@ onward c =
     (back w64 (c .signed-value .result) (c .signed-value .ok)
     ∙ c .signed-value .ensures
     ∙ ap₂ (λ (p : ℤ) (q : ℤ). signedValue p q (getD accepted (l .i) 0))
-    (back w32 (getD bids (bidNumbers * l .i + 1) (pos 0)) (c .before .before .before .price .given))
-    (back w32 (getD bids (bidNumbers * l .i + 2) (pos 0)) (c .before .before .quantity .given)))
+    (back w32 (getD bids (bidNumbers * l .i + pricePlace) (pos 0)) (c .before .before .before .price .given))
+    (back w32 (getD bids (bidNumbers * l .i + quantityPlace) (pos 0)) (c .before .before .quantity .given)))
     ∙ sym (sum-next (l .i) (added bids accepted))
 
 fitting : (c : tie.After-signed-value Inv-loop μ-loop) → SFits w64 (sum-after c)

@@ -10,12 +10,6 @@ use Rattle.plan.specs.Asking.{total-accepted, total-refused}
 use Rattle.orders.proofs.Plan.total.Statement.{statement}
 use Rattle.orders.proofs.Plan.total.Tie as tie
 
-judge-counts-requires : tie.Need-judge-counts-requires
-judge-counts-requires c κs = search needs
-
-is-accepted-requires : tie.Need-is-accepted-requires
-is-accepted-requires c κs = search needs
-
 returns : tie.Need-returns
 returns c =
     let judged = c .before .before .judge-counts .ensures in
@@ -39,8 +33,8 @@ pub total-spec : {M : Type 1} → statement M
 total-spec =
     tie.close
     (tie.spec
-    judge-counts-requires
-    is-accepted-requires
+    (λ c κs. search needs)
+    (λ c κs. search needs)
     returns
     tables-of-requires
     length-of-requires

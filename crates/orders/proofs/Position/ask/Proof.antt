@@ -15,12 +15,6 @@ use Rattle.orders.proofs.Answers.{asked-refused, counts-none, asked-fro
 use Rattle.orders.proofs.Position.ask.Statement.{statement}
 use Rattle.orders.proofs.Position.ask.Tie as tie
 
-judge-requires : tie.Need-judge-requires
-judge-requires c κs = search needs
-
-is-accepted-requires : tie.Need-is-accepted-requires
-is-accepted-requires c κs = search needs
-
 returns : tie.Need-returns
 returns c =
     let p = c .before .before .before .args .self in
@@ -68,8 +62,8 @@ pub ask-spec : {M : Type 1} → statement M
 ask-spec =
     tie.close
     (tie.spec
-    judge-requires
-    is-accepted-requires
+    (λ c κs. search needs)
+    (λ c κs. search needs)
     returns
     tables-of-requires
     length-of-requires

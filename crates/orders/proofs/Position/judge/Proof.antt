@@ -12,12 +12,6 @@ use Rattle.plan.specs.Asking.{past-total, within-total}
 use Rattle.orders.proofs.Position.judge.Statement.{statement}
 use Rattle.orders.proofs.Position.judge.Tie as tie
 
-judge-counts-requires : tie.Need-judge-counts-requires
-judge-counts-requires c κs = search needs
-
-is-accepted-requires : tie.Need-is-accepted-requires
-is-accepted-requires c κs = search needs
-
 returns : tie.Need-returns
 unfolding askRefusal
 returns c =
@@ -50,8 +44,8 @@ pub judge-spec : {M : Type 1} → statement M
 judge-spec =
     tie.close
     (tie.spec
-    judge-counts-requires
-    is-accepted-requires
+    (λ c κs. search needs)
+    (λ c κs. search needs)
     returns
     tables-of-requires
     length-of-requires

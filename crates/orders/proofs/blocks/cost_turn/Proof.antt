@@ -12,9 +12,6 @@ use borrow.Author.Needs.{needs}
 use Rattle.orders.proofs.blocks.cost_turn.Statement.{statement}
 use Rattle.orders.proofs.blocks.cost_turn.Tie as tie
 
-subset-count-requires : tie.Need-subset-count-requires
-subset-count-requires c κs = search needs
-
 sub-last : tie.Need-sub-last
 sub-last c = omega (arith, c .subset-count .ensures .0)
 
@@ -27,12 +24,6 @@ returns c =
     ap (λ (k : ℕ). flatOf (sum (Temporary 2) (Cut (a .s)) (Subset (k - 1 - a .s)))) (c .subset-count .ensures .0)
     ∙ at-place (costTurn (a .m) (nameAt (a .u) (a .i) 0) (a .s)) _ 0 (omega (arith, c .before .if1 .taken))
 
-sub-lowered-order : tie.Need-sub-lowered-order
-sub-lowered-order c = search needs
-
-lowered-order-requires : tie.Need-lowered-order-requires
-lowered-order-requires c κs = search needs
-
 returns-2 : tie.Need-returns-2
 returns-2 c =
     let a = c .before .before .args in
@@ -43,10 +34,10 @@ pub cost-turn-spec : {M : Type 1} → statement M
 cost-turn-spec =
     tie.close
     (tie.spec
-    subset-count-requires
+    (λ c κs. search needs)
     sub-last
     sub-rest
     returns
-    sub-lowered-order
-    lowered-order-requires
+    (λ c. search needs)
+    (λ c κs. search needs)
     returns-2)

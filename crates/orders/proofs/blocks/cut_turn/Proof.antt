@@ -6,9 +6,6 @@ use borrow.Author.Needs.{needs}
 use Rattle.orders.proofs.blocks.cut_turn.Statement.{statement}
 use Rattle.orders.proofs.blocks.cut_turn.Tie as tie
 
-is-leaving-requires : tie.Need-is-leaving-requires
-is-leaving-requires c κs = search needs
-
 returns : tie.Need-returns
 returns c =
     let a = c .before .before .args in
@@ -20,4 +17,4 @@ returns-2 c =
     cut-chosen (a .s) (a .a) (a .b) false (sym (c .if1 .left) ∙ c .before .is-leaving .ensures)
 
 pub cut-turn-spec : {M : Type 1} → statement M
-cut-turn-spec = tie.close (tie.spec is-leaving-requires returns returns-2)
+cut-turn-spec = tie.close (tie.spec (λ c κs. search needs) returns returns-2)

@@ -12,12 +12,6 @@ use Rattle.orders.proofs.blocks.highest_offer_turn.Tie as tie
 returns : tie.Need-returns
 returns c = at-place _ _ 0 (omega (arith, c .if1 .taken))
 
-sub-raised-order : tie.Need-sub-raised-order
-sub-raised-order c = search needs
-
-raised-order-requires : tie.Need-raised-order-requires
-raised-order-requires c κs = search needs
-
 returns-2 : tie.Need-returns-2
 returns-2 c =
     let a = c .before .before .args in
@@ -25,4 +19,4 @@ returns-2 c =
     (raised (HighestOffer (a .p)) (Temporary 2)) _ (omega (arith, c .before .if1 .left))
 
 pub highest-offer-turn-spec : {M : Type 1} → statement M
-highest-offer-turn-spec = tie.close (tie.spec returns sub-raised-order raised-order-requires returns-2)
+highest-offer-turn-spec = tie.close (tie.spec returns (λ c. search needs) (λ c κs. search needs) returns-2)

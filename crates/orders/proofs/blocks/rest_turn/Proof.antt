@@ -6,19 +6,10 @@ use borrow.Author.Needs.{needs}
 use Rattle.orders.proofs.blocks.rest_turn.Statement.{statement}
 use Rattle.orders.proofs.blocks.rest_turn.Tie as tie
 
-is-leaving-requires : tie.Need-is-leaving-requires
-is-leaving-requires c κs = search needs
-
-lowered-order-requires : tie.Need-lowered-order-requires
-lowered-order-requires c κs = search needs
-
 returns : tie.Need-returns
 returns c =
     let a = c .before .before .before .args in
     c .lowered-order .ensures ∙ rest-chosen (a .s) (a .a) (a .b) true _ (sym (c .before .if1 .taken) ∙ c .before .before .is-leaving .ensures)
-
-lowered-order-requires-2 : tie.Need-lowered-order-requires-2
-lowered-order-requires-2 c κs = search needs
 
 returns-2 : tie.Need-returns-2
 returns-2 c =
@@ -29,8 +20,8 @@ pub rest-turn-spec : {M : Type 1} → statement M
 rest-turn-spec =
     tie.close
     (tie.spec
-    is-leaving-requires
-    lowered-order-requires
+    (λ c κs. search needs)
+    (λ c κs. search needs)
     returns
-    lowered-order-requires-2
+    (λ c κs. search needs)
     returns-2)

@@ -14,9 +14,6 @@ use Rattle.orders.proofs.blocks.subset_order.Tie as tie
 returns : tie.Need-returns
 returns c = subset-first _ _ _ (c .if1 .taken)
 
-other-pools-requires : tie.Need-other-pools-requires
-other-pools-requires c κs = search needs
-
 returns-2 : tie.Need-returns-2
 returns-2 c =
     let a = c .before .before .args in
@@ -26,4 +23,4 @@ returns-2 c =
     ∙ subset-next (a .m) (a .s) (λ p. cell) (c .before .if1 .left)
 
 pub subset-order-spec : {M : Type 1} → statement M
-subset-order-spec = tie.close (tie.spec returns other-pools-requires returns-2)
+subset-order-spec = tie.close (tie.spec returns (λ c κs. search needs) returns-2)

@@ -6,16 +6,10 @@ use borrow.Author.Needs.{needs}
 use Rattle.orders.proofs.blocks.take_turn.Statement.{statement}
 use Rattle.orders.proofs.blocks.take_turn.Tie as tie
 
-is-leaving-requires : tie.Need-is-leaving-requires
-is-leaving-requires c κs = search needs
-
 returns : tie.Need-returns
 returns c =
     let a = c .before .before .args in
     take-chosen (a .s) (a .a) (a .b) _ true _ (sym (c .if1 .taken) ∙ c .before .is-leaving .ensures) refl
-
-is-leaving-requires-2 : tie.Need-is-leaving-requires-2
-is-leaving-requires-2 c κs = search needs
 
 returns-2 : tie.Need-returns-2
 returns-2 c =
@@ -31,4 +25,4 @@ returns-3 c =
 
 pub take-turn-spec : {M : Type 1} → statement M
 take-turn-spec =
-    tie.close (tie.spec is-leaving-requires returns is-leaving-requires-2 returns-2 returns-3)
+    tie.close (tie.spec (λ c κs. search needs) returns (λ c κs. search needs) returns-2 returns-3)

@@ -5,17 +5,8 @@ use borrow.Author.Needs.{needs}
 use Rattle.orders.proofs.cells.cell_of.Statement.{statement}
 use Rattle.orders.proofs.cells.cell_of.Tie as tie
 
-mul-result : tie.Need-mul-result
-mul-result c = search needs
-
 element-copy-out-result : tie.Need-element-copy-out-result
 element-copy-out-result c = omega (arith, c .pre .0 .long, c .pre .1 .0)
-
-add-result : tie.Need-add-result
-add-result c = search needs
-
-mul-result-2 : tie.Need-mul-result-2
-mul-result-2 c = search needs
 
 element-copy-out-result-2 : tie.Need-element-copy-out-result-2
 element-copy-out-result-2 c = omega (arith, c .before .pre .0 .long, c .before .pre .1 .0)
@@ -39,10 +30,10 @@ pub cell-of-spec : {M : Type 1} → statement M
 cell-of-spec =
     tie.close
     (tie.spec
-    mul-result
+    (λ c. search needs)
     element-copy-out-result
-    add-result
-    mul-result-2
+    (λ c. search needs)
+    (λ c. search needs)
     element-copy-out-result-2
     mul-result-3
     add-result-2

@@ -28,9 +28,6 @@ subset-count-requires c κs = c .pre .pools .most
 loop-holds : tie.Need-loop-holds Inv-loop μ-loop
 loop-holds c = let a = c .before .args in (laid-none (a .n) (a .m) _ refl, first-start (a .n) (a .m))
 
-place-of-requires : tie.Need-place-of-requires Inv-loop μ-loop
-place-of-requires c κs = search needs
-
 -- the place found is that of family f
 placed : (c : tie.After-place-of Inv-loop μ-loop) → let at = c .before .before in
     c .place-of .result ≡ placeAt (at .before .before .args .n) (at .before .before .args .m) (at .before .before .args .m * at .before .before .args .m) (2 ^ at .before .before .args .m) (at .loop .f)
@@ -46,32 +43,14 @@ on-sheet c =
     let s = at .before .before in
     next-on-sheet (s .args .n) (s .args .m) (at .loop .f) (at .loop .start) (c .place-of .result) (s .pre) (omega arith) (placed c) (at .loop .inv .1)
 
-mul-tables : tie.Need-mul-tables Inv-loop μ-loop
-mul-tables c = search needs
-
 array-write-tables : tie.Need-array-write-tables Inv-loop μ-loop
 array-write-tables c = omega (arith, c .before .before .loop .inv .0 .long)
-
-add-tables : tie.Need-add-tables Inv-loop μ-loop
-add-tables c = search needs
-
-mul-tables-2 : tie.Need-mul-tables-2 Inv-loop μ-loop
-mul-tables-2 c = search needs
-
-array-write-tables-2 : tie.Need-array-write-tables-2 Inv-loop μ-loop
-array-write-tables-2 c = omega arith
 
 mul-start : tie.Need-mul-start Inv-loop μ-loop
 mul-start c = omega (arith, on-sheet (c .before))
 
 add-start : tie.Need-add-start Inv-loop μ-loop
 add-start c = omega (arith, on-sheet (c .before))
-
-add-f : tie.Need-add-f Inv-loop μ-loop
-add-f c = search needs
-
-loop-less : tie.Need-loop-less Inv-loop μ-loop
-loop-less c = omega arith
 
 loop-again : tie.Need-loop-again Inv-loop μ-loop
 loop-again c =
@@ -102,16 +81,16 @@ layout-of-spec =
     mul-lines
     subset-count-requires
     loop-holds
-    place-of-requires
-    mul-tables
+    (λ c κs. search needs)
+    (λ c. search needs)
     array-write-tables
-    add-tables
-    mul-tables-2
-    array-write-tables-2
+    (λ c. search needs)
+    (λ c. search needs)
+    (λ c. omega arith)
     mul-start
     add-start
-    add-f
-    loop-less
+    (λ c. search needs)
+    (λ c. omega arith)
     loop-again
     array-write-tables-3
     returns)

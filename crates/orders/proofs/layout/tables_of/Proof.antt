@@ -13,9 +13,6 @@ Inv-loop n m scratch tables₀ k₀ tables k = SizesTo n m k tables
 abbrev μ-loop : tie.MeasureT-loop
 μ-loop n m scratch tables₀ k₀ tables k = phaseCount - k
 
-layout-of-requires : tie.Need-layout-of-requires Inv-loop μ-loop
-layout-of-requires c κs = search needs
-
 scratch-count-requires : tie.Need-scratch-count-requires Inv-loop μ-loop
 scratch-count-requires c κs = c .before .layout-of .ensures
 
@@ -25,20 +22,8 @@ loop-holds c = let a = c .before .before .before .args in sizes-none (a .n) (a .
 phase-size-requires : tie.Need-phase-size-requires Inv-loop μ-loop
 phase-size-requires c κs = let s = c .before .before in (s .before .before .before .pre, (s .scratch-count .ensures, omega arith))
 
-add-tables : tie.Need-add-tables Inv-loop μ-loop
-add-tables c = search needs
-
-mul-tables : tie.Need-mul-tables Inv-loop μ-loop
-mul-tables c = search needs
-
 array-write-tables : tie.Need-array-write-tables Inv-loop μ-loop
 array-write-tables c = omega (arith, c .before .before .loop .inv .layout .long)
-
-add-k : tie.Need-add-k Inv-loop μ-loop
-add-k c = search needs
-
-loop-less : tie.Need-loop-less Inv-loop μ-loop
-loop-less c = omega arith
 
 loop-again : tie.Need-loop-again Inv-loop μ-loop
 loop-again c =
@@ -58,14 +43,14 @@ tables-of-spec =
     (tie.spec
     Inv-loop
     μ-loop
-    layout-of-requires
+    (λ c κs. search needs)
     scratch-count-requires
     loop-holds
     phase-size-requires
-    add-tables
-    mul-tables
+    (λ c. search needs)
+    (λ c. search needs)
     array-write-tables
-    add-k
-    loop-less
+    (λ c. search needs)
+    (λ c. omega arith)
     loop-again
     returns)

@@ -25,12 +25,6 @@ run-turn-requires c κs =
     let part = p .1 .1 in
     (p .0, (p .1 .0, (part .0, (omega (arith, part .1 .columns, then .if1 .taken), part .1 .turn))))
 
-add-j : tie.Need-add-j Inv-loop μ-loop
-add-j c = omega arith
-
-loop-less : tie.Need-loop-less Inv-loop μ-loop
-loop-less c = omega arith
-
 loop-again : tie.Need-loop-again Inv-loop μ-loop
 loop-again c =
     let turn = c .before .before in
@@ -62,8 +56,8 @@ run-part-spec =
     μ-loop
     loop-holds
     run-turn-requires
-    add-j
-    loop-less
+    (λ c. omega arith)
+    (λ c. omega arith)
     loop-again
     same-length
     returns)

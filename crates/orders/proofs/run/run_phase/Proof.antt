@@ -35,12 +35,6 @@ run-row-requires c κs =
     let p = at .before .before .before .before .pre in
     (p .0, (p .1, (shape, omega (arith, shape .rows, then .if1 .taken))))
 
-add-i : tie.Need-add-i Inv-loop μ-loop
-add-i c = omega arith
-
-loop-less : tie.Need-loop-less Inv-loop μ-loop
-loop-less c = omega arith
-
 loop-again : tie.Need-loop-again Inv-loop μ-loop
 loop-again c =
     let row = c .before .before in
@@ -74,8 +68,8 @@ run-phase-spec =
     shape-of-requires
     loop-holds
     run-row-requires
-    add-i
-    loop-less
+    (λ c. omega arith)
+    (λ c. omega arith)
     loop-again
     same-length
     returns)

@@ -24,12 +24,6 @@ loop-holds c = ran-none _ _ _ _ _
 run-phase-requires : tie.Need-run-phase-requires Inv-loop μ-loop
 run-phase-requires c κs = (c .before .before .before .before .pre, omega arith)
 
-add-k : tie.Need-add-k Inv-loop μ-loop
-add-k c = omega arith
-
-loop-less : tie.Need-loop-less Inv-loop μ-loop
-loop-less c = omega arith
-
 loop-again : tie.Need-loop-again Inv-loop μ-loop
 loop-again c =
     let phase = c .before .before in
@@ -65,8 +59,8 @@ run-phases-spec =
     μ-loop
     loop-holds
     run-phase-requires
-    add-k
-    loop-less
+    (λ c. omega arith)
+    (λ c. omega arith)
     loop-again
     same-length
     returns)

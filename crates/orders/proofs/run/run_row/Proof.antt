@@ -24,9 +24,6 @@ abbrev μ-loop : tie.MeasureT-loop
 loop-holds : tie.Need-loop-holds Inv-loop μ-loop
 loop-holds c = ran-none _ _ _ _ _
 
-part-of-requires : tie.Need-part-of-requires Inv-loop μ-loop
-part-of-requires c κs = search needs
-
 run-part-requires : tie.Need-run-part-requires Inv-loop μ-loop
 run-part-requires c κs =
     let then = c .before .before in
@@ -37,12 +34,6 @@ run-part-requires c κs =
     let l : at .loop .q < length (phaseAt (s .args .n) (s .args .m) (s .args .k) .parts) = omega (arith, shape .parts, then .if1 .taken) in
     let facts = part-facts _ _ shape _ l _ (c .before .part-of .ensures) in
     (p .0, (p .1 .0, (record { row = p .1 .1 .1; part = l }, facts)))
-
-add-q : tie.Need-add-q Inv-loop μ-loop
-add-q c = omega arith
-
-loop-less : tie.Need-loop-less Inv-loop μ-loop
-loop-less c = omega arith
 
 loop-again : tie.Need-loop-again Inv-loop μ-loop
 loop-again c =
@@ -78,10 +69,10 @@ run-row-spec =
     Inv-loop
     μ-loop
     loop-holds
-    part-of-requires
+    (λ c κs. search needs)
     run-part-requires
-    add-q
-    loop-less
+    (λ c. omega arith)
+    (λ c. omega arith)
     loop-again
     same-length
     returns)

@@ -36,15 +36,6 @@ numbered-order-requires c κs =
     let r = c .before .before .loop .r in
     (p .0 .tables .layout, order-ready (a .n) (a .m) (a .k) (a .i) (a .q) (a .j) r _ (p .0 .counts) (p .1 .0) (place (c .before)) (c .order-of .ensures))
 
-step-requires : tie.Need-step-requires Inv-loop μ-loop
-step-requires c κs = search needs
-
-add-r : tie.Need-add-r Inv-loop μ-loop
-add-r c = omega arith
-
-loop-less : tie.Need-loop-less Inv-loop μ-loop
-loop-less c = omega arith
-
 loop-again : tie.Need-loop-again Inv-loop μ-loop
 loop-again c =
     let step = c .before .before in
@@ -75,9 +66,9 @@ run-turn-spec =
     loop-holds
     order-of-requires
     numbered-order-requires
-    step-requires
-    add-r
-    loop-less
+    (λ c κs. search needs)
+    (λ c. omega arith)
+    (λ c. omega arith)
     loop-again
     same-length
     returns)

@@ -5,12 +5,6 @@ use borrow.Author.Needs.{needs}
 use Rattle.orders.proofs.sets.is_leaving.Statement.{statement}
 use Rattle.orders.proofs.sets.is_leaving.Tie as tie
 
-is-member-requires : tie.Need-is-member-requires
-is-member-requires c κs = search needs
-
-is-member-requires-2 : tie.Need-is-member-requires-2
-is-member-requires-2 c κs = search needs
-
 returns : tie.Need-returns
 returns c = leaves-out _ _ _ (sym (c .before .before .is-member .ensures) ∙ c .before .if1 .taken) _ (c .is-member2 .ensures)
 
@@ -18,4 +12,4 @@ returns-2 : tie.Need-returns-2
 returns-2 c = leaves-not _ _ _ (sym (c .before .is-member .ensures) ∙ c .if1 .left)
 
 pub is-leaving-spec : {M : Type 1} → statement M
-is-leaving-spec = tie.close (tie.spec is-member-requires is-member-requires-2 returns returns-2)
+is-leaving-spec = tie.close (tie.spec (λ c κs. search needs) (λ c κs. search needs) returns returns-2)

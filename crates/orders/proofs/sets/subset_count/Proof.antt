@@ -5,11 +5,8 @@ use Rattle.plan.specs.Plan.{power-small}
 use Rattle.orders.proofs.sets.subset_count.Statement.{statement}
 use Rattle.orders.proofs.sets.subset_count.Tie as tie
 
-shl-result : tie.Need-shl-result
-shl-result c = search needs
-
 returns : tie.Need-returns
 returns c = omega (arith, power-small (c .args .m) (c .pre))
 
 pub subset-count-spec : {M : Type 1} → statement M
-subset-count-spec = tie.close (tie.spec shl-result returns)
+subset-count-spec = tie.close (tie.spec (λ c. search needs) returns)

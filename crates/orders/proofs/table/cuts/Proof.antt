@@ -8,12 +8,6 @@ use Rattle.orders.specs.Shaped.{sum-at, head-of, cut-at, cut-pools}
 use Rattle.orders.proofs.table.cuts.Statement.{statement}
 use Rattle.orders.proofs.table.cuts.Tie as tie
 
-lowest-pool-requires : tie.Need-lowest-pool-requires
-lowest-pool-requires c κs = search needs
-
-subset-order-requires : tie.Need-subset-order-requires
-subset-order-requires c κs = search needs
-
 returns : tie.Need-returns
 returns c = let a = c .before .before .before .args in
     sum-at (cutPhase (a .n) (a .m)) (a .i) (a .q) 0 (a .j) (a .r) (a .m) Demand (c .before .before .if1 .taken) (c .before .before .before .pre)
@@ -24,24 +18,15 @@ returns-2 c = let s = c .before .before in
     let a = s .args in
     head-of (cutPhase (a .n) (a .m)) (a .i) (a .q) 1 (a .j) (a .r) (omega (arith, c .before .if1 .left, s .pre .part)) (c .if2 .taken)
 
-sub-cut-turn : tie.Need-sub-cut-turn
-sub-cut-turn c = search needs
-
 div-cut-turn : tie.Need-div-cut-turn
 div-cut-turn c = let s = c .before .before in
     let a = s .args in
     omega (arith, cut-pools (a .n) (a .m) (a .i) (a .q) (a .j) (a .r) (c .before .if1 .left) (c .if2 .left) (s .pre))
 
-sub-cut-turn-2 : tie.Need-sub-cut-turn-2
-sub-cut-turn-2 c = search needs
-
 rem-cut-turn : tie.Need-rem-cut-turn
 rem-cut-turn c = let s = c .before .before in
     let a = s .args in
     omega (arith, cut-pools (a .n) (a .m) (a .i) (a .q) (a .j) (a .r) (c .before .if1 .left) (c .if2 .left) (s .pre))
-
-cut-turn-requires : tie.Need-cut-turn-requires
-cut-turn-requires c κs = search needs
 
 returns-3 : tie.Need-returns-3
 returns-3 c = let s = c .before .before .before in
@@ -52,13 +37,13 @@ pub cuts-spec : {M : Type 1} → statement M
 cuts-spec =
     tie.close
     (tie.spec
-    lowest-pool-requires
-    subset-order-requires
+    (λ c κs. search needs)
+    (λ c κs. search needs)
     returns
     returns-2
-    sub-cut-turn
+    (λ c. search needs)
     div-cut-turn
-    sub-cut-turn-2
+    (λ c. search needs)
     rem-cut-turn
-    cut-turn-requires
+    (λ c κs. search needs)
     returns-3)

@@ -19,9 +19,6 @@ rest-turn-requires c κs = let s = c .before in
     let a = s .args in
     in-part (linePhase (a .n) (a .m)) (a .i) (a .q) 1 (a .j) (a .r) (c .match .keys2) (s .pre) .1
 
-take-turn-requires : tie.Need-take-turn-requires
-take-turn-requires c κs = search needs
-
 returns : tie.Need-returns
 returns c = let s = c .before in
     let a = s .args in
@@ -51,7 +48,7 @@ lines-spec =
     div-a
     rem-b
     rest-turn-requires
-    take-turn-requires
+    (λ c κs. search needs)
     returns
     returns-2
     returns-3

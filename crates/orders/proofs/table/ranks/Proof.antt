@@ -16,21 +16,12 @@ use Rattle.orders.proofs.table.ranks.Tie as tie
 abbrev here : tie.Start → Phase
 here s = rankPhase (s .args .n) (s .args .m) (nameAt (s .args .t)) (λ x. nameAt (s .args .u) x 0)
 
-lowest-pool-requires : tie.Need-lowest-pool-requires
-lowest-pool-requires c κs = search needs
-
-subset-order-requires : tie.Need-subset-order-requires
-subset-order-requires c κs = search needs
-
 returns : tie.Need-returns
 returns c =
     let s = c .before .before .before in
     let a = s .args in
     sum-at (here s) (a .i) (a .q) 0 (a .j) (a .r) (a .m) (nameAt (a .t) (a .i)) (c .before .before .if1 .taken)
     (s .pre .1 .1 .1) refl refl _ _ (c .subset-order .ensures) (ap (nameAt (a .t) (a .i)) (c .before .lowest-pool .ensures .0))
-
-cast-t11 : tie.Need-cast-t11
-cast-t11 c = search needs
 
 returns-2 : tie.Need-returns-2
 returns-2 c =
@@ -57,10 +48,10 @@ pub ranks-spec : {M : Type 1} → statement M
 ranks-spec =
     tie.close
     (tie.spec
-    lowest-pool-requires
-    subset-order-requires
+    (λ c κs. search needs)
+    (λ c κs. search needs)
     returns
-    cast-t11
+    (λ c. search needs)
     returns-2
     cost-turn-requires
     returns-3)

@@ -11,23 +11,11 @@ use Rattle.orders.proofs.table.sizes_before.Tie as tie
 returns : tie.Need-returns
 returns c = let a = c .before .args in one-of (sizeBeforePhase (a .n) (a .m)) (a .i) (a .q) 0 (a .j) (a .r) (c .if1 .taken) (c .before .pre) refl
 
-test-order-requires : tie.Need-test-order-requires
-test-order-requires c κs = search needs
-
 returns-2 : tie.Need-returns-2
 returns-2 c = let s = c .before .before .before in
     let a = s .args in
     c .test-order .ensures ∙ head-of (sizeBeforePhase (a .n) (a .m)) (a .i) (a .q) 1 (a .j) (a .r)
     (omega (arith, c .before .before .if1 .left, s .pre .part)) (c .before .if2 .taken)
-
-sub-gain-turn : tie.Need-sub-gain-turn
-sub-gain-turn c = search needs
-
-sub-gain-turn-2 : tie.Need-sub-gain-turn-2
-sub-gain-turn-2 c = search needs
-
-gain-turn-requires : tie.Need-gain-turn-requires
-gain-turn-requires c κs = search needs
 
 returns-3 : tie.Need-returns-3
 returns-3 c = let s = c .before .before .before in
@@ -44,9 +32,9 @@ sizes-before-spec =
     tie.close
     (tie.spec
     returns
-    test-order-requires
+    (λ c κs. search needs)
     returns-2
-    sub-gain-turn
-    sub-gain-turn-2
-    gain-turn-requires
+    (λ c. search needs)
+    (λ c. search needs)
+    (λ c κs. search needs)
     returns-3)

@@ -8,12 +8,6 @@ use Rattle.orders.specs.Shaped.{sum-at, one-of}
 use Rattle.orders.proofs.table.slacks.Statement.{statement}
 use Rattle.orders.proofs.table.slacks.Tie as tie
 
-lowest-pool-requires : tie.Need-lowest-pool-requires
-lowest-pool-requires c κs = search needs
-
-subset-order-requires : tie.Need-subset-order-requires
-subset-order-requires c κs = search needs
-
 returns : tie.Need-returns
 returns c = let a = c .before .before .before .args in
     sum-at (slackPhase (a .n) (a .m)) (a .i) (a .q) 0 (a .j) (a .r) (a .m) Placement (c .before .before .if1 .taken)
@@ -27,7 +21,7 @@ pub slacks-spec : {M : Type 1} → statement M
 slacks-spec =
     tie.close
     (tie.spec
-    lowest-pool-requires
-    subset-order-requires
+    (λ c κs. search needs)
+    (λ c κs. search needs)
     returns
     returns-2)

@@ -58,9 +58,6 @@ module _ (c : tie.After-area Inv-loop μ-loop) (inside : c .before .before .loop
 loop-holds : tie.Need-loop-holds Inv-loop μ-loop
 loop-holds c = parts-none _ _
 
-part-of-requires : tie.Need-part-of-requires Inv-loop μ-loop
-part-of-requires c κs = search needs
-
 area-requires : tie.Need-area-requires Inv-loop μ-loop
 area-requires c κs = facts c .small
 
@@ -122,7 +119,7 @@ in-row-spec =
     Inv-loop
     μ-loop
     loop-holds
-    part-of-requires
+    (λ c κs. search needs)
     area-requires
     div-order-of
     rem-order-of

@@ -20,12 +20,6 @@ abbrev μ-loop : tie.MeasureT-loop
 loop-holds : tie.Need-loop-holds Inv-loop μ-loop
 loop-holds c = count-none _
 
-add-size : tie.Need-add-size Inv-loop μ-loop
-add-size c = search needs
-
-mul-size : tie.Need-mul-size Inv-loop μ-loop
-mul-size c = search needs
-
 element-copy-out-size : tie.Need-element-copy-out-size Inv-loop μ-loop
 element-copy-out-size c = omega (arith, c .before .before .pre .tables .layout .long)
 
@@ -35,12 +29,6 @@ sized c = c .before .before .before .pre .tables .sizes (c .before .before .loop
 
 add-size-2 : tie.Need-add-size-2 Inv-loop μ-loop
 add-size-2 c = let at = c .before .before in omega (arith, at .loop .inv .bound, sized c .small)
-
-add-k : tie.Need-add-k Inv-loop μ-loop
-add-k c = omega arith
-
-loop-less : tie.Need-loop-less Inv-loop μ-loop
-loop-less c = omega arith
 
 loop-again : tie.Need-loop-again Inv-loop μ-loop
 unfolding phaseAt
@@ -63,11 +51,11 @@ length-of-spec =
     Inv-loop
     μ-loop
     loop-holds
-    add-size
-    mul-size
+    (λ c. search needs)
+    (λ c. search needs)
     element-copy-out-size
     add-size-2
-    add-k
-    loop-less
+    (λ c. omega arith)
+    (λ c. omega arith)
     loop-again
     returns)

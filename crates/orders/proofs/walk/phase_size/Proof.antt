@@ -6,15 +6,6 @@ use Rattle.orders.specs.Steps.{size-is}
 use Rattle.orders.proofs.walk.phase_size.Statement.{statement}
 use Rattle.orders.proofs.walk.phase_size.Tie as tie
 
-shape-of-requires : tie.Need-shape-of-requires
-shape-of-requires c κs = search needs
-
-row-size-requires : tie.Need-row-size-requires
-row-size-requires c κs = search needs
-
-rows-size-requires : tie.Need-rows-size-requires
-rows-size-requires c κs = search needs
-
 returns : tie.Need-returns
 returns c =
     let s = c .before .before .shape-of in
@@ -22,4 +13,4 @@ returns c =
     record { is = c .rows-size .ensures .0 ∙ size-is _ (s .result) (s .ensures) _ row; small = c .rows-size .ensures .1 }
 
 pub phase-size-spec : {M : Type 1} → statement M
-phase-size-spec = tie.close (tie.spec shape-of-requires row-size-requires rows-size-requires returns)
+phase-size-spec = tie.close (tie.spec (λ c κs. search needs) (λ c κs. search needs) (λ c κs. search needs) returns)

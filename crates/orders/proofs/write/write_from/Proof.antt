@@ -68,9 +68,6 @@ there c =
     subst (λ (k : ℕ). Has (plan (a .n) (a .m)) k (c .order-within .result)) (at .loop .inv .filled .stands)
     (subst (λ (o : Order). Has (plan (a .n) (a .m)) (at .loop .next) o) (sym is) here)
 
-write-order-requires : tie.Need-write-order-requires Inv-loop μ-loop
-write-order-requires c κs = search needs
-
 -- bytes were written
 room : (c : tie.Else1 Inv-loop μ-loop) → let found = c .before .before .before .before .before in let loop = found .before .before .before .loop in
     loop .bytes + length (orderBytes (found .order-within .result)) ≤ length (loop .out)
@@ -166,7 +163,7 @@ write-from-spec =
     loop-holds
     phase-from-requires
     order-within-requires
-    write-order-requires
+    (λ c κs. search needs)
     same-length
     returns
     add-bytes
