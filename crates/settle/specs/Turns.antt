@@ -8,8 +8,9 @@ use lib.ListN.{take}
 use lib.IntN.{ℤ, pos, negsuc}
 use Rattle.definitions.specs.Settle.{settleText, unreadableText, refusedText}
 use Rattle.plan.specs.Plan.{plan}
-use Rattle.text.specs.declared.Input.{Input}
-use Rattle.text.specs.Reading.{Reading, readSoFar, startReader, wordEnded, fed, failedRead, stageInput}
+use Rattle.stages.specs.declared.Input.{Input}
+use Rattle.stages.specs.Counting.{stageInput}
+use Rattle.text.specs.Reading.{Reading, readSoFar, startReader, wordEnded, fed, failedRead}
 use Rattle.settle.specs.declared.Turn.{Turn}
 use Rattle.settle.specs.declared.Turn.the-variants.{More, Over}
 

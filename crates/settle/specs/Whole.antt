@@ -10,9 +10,10 @@ use Rattle.definitions.specs.Answers.{Refusal, numberOf, placeOf}
 use Rattle.definitions.specs.Settle as settle
 use Rattle.definitions.specs.Settle.{inputText, settleText, settleInput, refusedText}
 use Rattle.plan.specs.Plan.{plan}
-use Rattle.text.specs.declared.Input.{Input}
+use Rattle.stages.specs.declared.Input.{Input}
 use Rattle.text.specs.declared.Reader.{Reader}
-use Rattle.text.specs.Reading.{Reading, readSoFar, startReader, tableNumbers, fed, inputFor}
+use Rattle.stages.specs.Counting.{tableNumbers, inputFor}
+use Rattle.text.specs.Reading.{Reading, readSoFar, startReader, fed}
 use Rattle.text.specs.Steps.{fed-append}
 use Rattle.text.specs.Texts.{reads}
 use Rattle.text.specs.Broken.{TurnedAway}

@@ -6,14 +6,15 @@ ghost use lib.ListN.{take};
 ghost use Rattle.definitions.specs.Settle.{inputText};
 ghost use Rattle.io.specs.Counts.{Counts};
 ghost use Rattle.plan.specs.Plan.{plan};
-ghost use Rattle.text.specs.Reading.{readSoFar, inputFor};
+ghost use Rattle.stages.specs.Counting.{inputFor};
+ghost use Rattle.text.specs.Reading.{readSoFar};
 ghost use Rattle.settle.specs.Turns.{turned, ReadWhole, PrintsWhole};
 use definitions::Limits;
 use libc::STDIN_FILENO;
 use libc::STDOUT_FILENO;
 use listing::Listing;
 use settlement::settle;
-use text::Input;
+use stages::Input;
 use text::Reader;
 
 // What a read leads to: more of the text is to be read, or the text is over.

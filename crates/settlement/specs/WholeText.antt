@@ -17,7 +17,7 @@ use Rattle.definitions.specs.Calls.{sealRefusal}
 use Rattle.definitions.specs.Settle.{Input, unreadable, refused, readable, inputText, bookText, unreadableText, settleText}
 use Rattle.definitions.specs.Plan.{Plan, over}
 use Rattle.laws.specs.Sizes.{accepted-sizes}
-use Rattle.text.specs.Reading.{tableNumbers}
+use Rattle.stages.specs.Counting.{tableNumbers}
 use Rattle.text.specs.Pieces.{joined, piecesRead, reads-pieces}
 use Rattle.listing.specs.Room.{listing-fits, refused-fits}
 use Rattle.listing.specs.Text.{textRoom, textSize, textSlice}

@@ -12,7 +12,7 @@ ghost use Rattle.definitions.specs.Settle.{listing, readable, refused, settleIn
 ghost use Rattle.definitions.specs.Sheet.{resultCount};
 ghost use Rattle.listing.specs.Text.{textRoom, textSize, textSlice};
 ghost use Rattle.plan.specs.Plan.{plan};
-ghost use Rattle.text.specs.Reading.{tableNumbers, inputFor};
+ghost use Rattle.stages.specs.Counting.{tableNumbers, inputFor};
 ghost use Rattle.settlement.specs.Settled.{settledSize, settledSlice, settledSheet, tablesOf, Prints};
 use answers::is_accepted;
 use answers::number;
@@ -26,7 +26,7 @@ use listing::write_listing;
 use listing::write_refused;
 use listing::write_unreadable;
 use opening::open;
-use text::Input;
+use stages::Input;
 use text::Reader;
 use text::read;
 

@@ -16,16 +16,17 @@ use Rattle.definitions.specs.Answers.{none, refuse}
 use Rattle.definitions.specs.Calls.{countsRefusal}
 use Rattle.definitions.specs.Settle.{Whole, noNumber, whole, wholeOf, Numbers, noNumbers, numbers, wordNumbers}
 use Rattle.definitions.specs.Settle.{Input, unreadable, refused, readable, tables, afterCounts, withCounts, inputOf, words, settleInput}
-use Rattle.text.specs.declared.words.Word.{Word}
-use Rattle.text.specs.declared.words.Word.the-variants.{Empty, Minus, Digits, NoNumber}
-use Rattle.text.specs.declared.words.Ended.{Ended}
-use Rattle.text.specs.declared.words.Ended.the-variants.{Nothing, Fault, Number}
-use Rattle.text.specs.declared.stages.Stage.{Stage}
-use Rattle.text.specs.declared.stages.Stage.the-variants as stage
-use Rattle.text.specs.declared.Input as answer
-use Rattle.text.specs.declared.Input.the-variants as answers
-use Rattle.text.specs.Words.{grownBy, endedOf}
-use Rattle.text.specs.Reading.{Reading, readSoFar, startReader, takenBy, wordEnded, afterByte, fed, failedRead, stageInput, inputFor}
+use Rattle.stages.specs.declared.words.Word.{Word}
+use Rattle.stages.specs.declared.words.Word.the-variants.{Empty, Minus, Digits, NoNumber}
+use Rattle.stages.specs.declared.words.Ended.{Ended}
+use Rattle.stages.specs.declared.words.Ended.the-variants.{Nothing, Fault, Number}
+use Rattle.stages.specs.declared.Stage.{Stage}
+use Rattle.stages.specs.declared.Stage.the-variants as stage
+use Rattle.stages.specs.declared.Input as answer
+use Rattle.stages.specs.declared.Input.the-variants as answers
+use Rattle.stages.specs.Words.{grownBy, endedOf}
+use Rattle.stages.specs.Counting.{takenBy, stageInput, inputFor}
+use Rattle.text.specs.Reading.{Reading, readSoFar, startReader, wordEnded, afterByte, fed, failedRead}
 use Rattle.text.specs.Steps.{fed-append}
 use Rattle.text.specs.Texts.{noneStored, wholeRead, reads}
 

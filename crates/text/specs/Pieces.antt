@@ -5,7 +5,8 @@ use mathlib.Core.List.{List, [], _∷_, _++_}
 use lib.ListN.{length}
 use lib.IntN.{ℤ}
 use Rattle.definitions.specs.Settle.{Input, settleInput}
-use Rattle.text.specs.Reading.{Reading, readSoFar, startReader, tableNumbers, wordEnded, fed, stageInput, inputFor}
+use Rattle.stages.specs.Counting.{tableNumbers, stageInput, inputFor}
+use Rattle.text.specs.Reading.{Reading, readSoFar, startReader, wordEnded, fed}
 use Rattle.text.specs.Steps.{fed-append}
 use Rattle.text.specs.Texts.{reads}
 

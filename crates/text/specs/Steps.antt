@@ -9,7 +9,8 @@ use lib.Seq.{drop-cons}
 use lib.IntN.{ℤ}
 use Rattle.definitions.specs.Settle.{blank}
 use Rattle.text.specs.declared.Reader.{Reader}
-use Rattle.text.specs.Reading.{Reading, readSoFar, decided, wordEnded, wordGrown, afterByte, fed}
+use Rattle.stages.specs.Counting.{decided}
+use Rattle.text.specs.Reading.{Reading, readSoFar, wordEnded, wordGrown, afterByte, fed}
 
 pub step-decided : (s : Reading) (byte : ℕ) → decided (s .reader .stage) ≡ true → afterByte s byte ≡ s
 unfolding afterByte

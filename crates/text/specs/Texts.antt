@@ -7,17 +7,18 @@ use lib.ListN.{length, replicate}
 use lib.IntN.{ℤ, pos}
 use Rattle.definitions.specs.Settle.{blank, ended, words, wordsFrom, wholeOf, settleInput}
 use Rattle.definitions.specs.Settle as settle
-use Rattle.text.specs.declared.words.Word.{Word}
-use Rattle.text.specs.declared.words.Word.the-variants.{Empty}
-use Rattle.text.specs.declared.words.Ended.{Ended}
-use Rattle.text.specs.declared.words.Ended.the-variants.{Nothing, Fault, Number}
-use Rattle.text.specs.declared.stages.Stage.{Stage}
-use Rattle.text.specs.declared.stages.Stage.the-variants as stage
-use Rattle.text.specs.Words.{endedOf}
-use Rattle.text.specs.Reading.{Reading, readSoFar, startReader, tableNumbers, decided, takenBy, wordEnded, fed, stageInput, inputFor}
+use Rattle.stages.specs.declared.words.Word.{Word}
+use Rattle.stages.specs.declared.words.Word.the-variants.{Empty}
+use Rattle.stages.specs.declared.words.Ended.{Ended}
+use Rattle.stages.specs.declared.words.Ended.the-variants.{Nothing, Fault, Number}
+use Rattle.stages.specs.declared.Stage.{Stage}
+use Rattle.stages.specs.declared.Stage.the-variants as stage
+use Rattle.stages.specs.Words.{endedOf}
+use Rattle.stages.specs.Counting.{tableNumbers, decided, takenBy, stageInput, inputFor}
+use Rattle.text.specs.Reading.{Reading, readSoFar, startReader, wordEnded, fed}
 use Rattle.text.specs.Steps.{step-blank, step-grown, decided-stays}
-use Rattle.text.specs.Values.{wordFrom, word-more, word-ends}
-use Rattle.text.specs.Stages.{Held, Onward, continued, word-taken, text-ended}
+use Rattle.stages.specs.Values.{wordFrom, word-more, word-ends}
+use Rattle.stages.specs.Stages.{Held, Onward, continued, word-taken, text-ended}
 
 -- a reader in the middle of a word
 abbrev pub inWord : Word → Stage → List ℤ → Reading

@@ -2,30 +2,20 @@
 // specs/ say what each step gives, and that a whole text gives what document 01 says, however it is cut.
 ghost use mathlib.Core.Path.{_≡_};
 ghost use Rattle.definitions.specs.Settle.{settleInput};
-ghost use Rattle.text.specs.Reading.{readSoFar, startReader, fed, failedRead, afterByte, wordEnded, stageInput, inputFor};
+ghost use Rattle.stages.specs.Counting.{stageInput, inputFor};
+ghost use Rattle.text.specs.Reading.{readSoFar, startReader, fed, failedRead, afterByte, wordEnded};
 ghost use Rattle.text.specs.Texts.{noneStored, wholeRead};
-use crate::stages::Stage;
-use crate::stages::answer;
-use crate::stages::is_over;
-use crate::stages::place;
-use crate::stages::store;
-use crate::stages::take_word;
-use crate::words::Word;
-use crate::words::end;
-use crate::words::grow;
-use crate::words::is_blank;
-use definitions::Limits;
-use definitions::Verdict;
-
-mod stages;
-mod words;
-
-// What a whole text is.
-pub enum Input {
-    Unreadable,
-    Refused(Verdict),
-    Ready { n: usize, m: usize },
-}
+use stages::Input;
+use stages::Stage;
+use stages::answer;
+use stages::is_over;
+use stages::place;
+use stages::store;
+use stages::take_word;
+use stages::words::Word;
+use stages::words::end;
+use stages::words::grow;
+use stages::words::is_blank;
 
 // What was read of a text: the word that is not yet ended, and the stage that the words before it led to. Only their types are public, so that
 // a caller's own types may hold a reader.
@@ -36,7 +26,7 @@ pub struct Reader {
 
 impl Reader {
     // How many numbers the tables of a book have at most.
-    pub const NUMBERS: usize = Limits::BID_NUMBERS * Limits::BIDS + Limits::POOLS * Limits::POOLS;
+    pub const NUMBERS: usize = stages::NUMBERS;
 
     // Nothing is read.
     pub fn start() -> Reader

@@ -1,7 +1,7 @@
 -- `list_text` meets its contract: the sheet has 4,096 cells and out has the room that a listing may need.
 use mathlib.Core.Path.{refl}
 use borrow.Author.Needs.{needs}
-use Rattle.text.specs.Reading.{inputFor}
+use Rattle.stages.specs.Counting.{inputFor}
 use Rattle.plan.specs.Plan.{plan}
 use Rattle.settlement.specs.WholeText.{settled-first}
 use Rattle.settle.proofs.list_text.Statement.{statement}

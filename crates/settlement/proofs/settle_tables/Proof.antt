@@ -13,8 +13,8 @@ use Rattle.definitions.specs.Calls.{countsRefusal, sealRefusal}
 use Rattle.definitions.specs.Settle.{readable, refused}
 use Rattle.laws.specs.Search.{turned-away, let-through}
 use Rattle.laws.specs.Sizes.{counted}
-use Rattle.text.specs.Reading.{tableNumbers}
-use Rattle.text.specs.Stages.{called, called-fits}
+use Rattle.stages.specs.Counting.{tableNumbers}
+use Rattle.stages.specs.Stages.{called, called-fits}
 use Rattle.plan.specs.Plan.{plan}
 use Rattle.settlement.specs.Settled.{settledSize, settledSlice, settledSheet}
 use Rattle.settlement.proofs.Texts.{same-size, same-slice, refused-text, counts-refuse, sheet-kept}

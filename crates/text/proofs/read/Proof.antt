@@ -5,9 +5,10 @@ use mathlib.Core.List.{List}
 use lib.IntN.{ℤ}
 use borrow.Author.Needs.{needs}
 use Rattle.definitions.specs.Settle.{settleInput}
-use Rattle.text.specs.declared.Input.{Input}
+use Rattle.stages.specs.declared.Input.{Input}
 use Rattle.text.specs.declared.Reader.{Reader}
-use Rattle.text.specs.Reading.{Reading, readSoFar, startReader, wordEnded, fed, stageInput, inputFor}
+use Rattle.stages.specs.Counting.{stageInput, inputFor}
+use Rattle.text.specs.Reading.{Reading, readSoFar, startReader, wordEnded, fed}
 use Rattle.text.specs.Texts.{noneStored, wholeRead, reads}
 use Rattle.text.proofs.read.Statement.{statement}
 use Rattle.text.proofs.read.Tie as tie

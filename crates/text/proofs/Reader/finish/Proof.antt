@@ -2,7 +2,7 @@
 use mathlib.Core.Path.{ap, _∙_}
 use borrow.Author.Needs.{needs}
 use Rattle.text.specs.declared.Reader.{Reader}
-use Rattle.text.specs.Reading.{stageInput}
+use Rattle.stages.specs.Counting.{stageInput}
 use Rattle.text.proofs.Reader.finish.Statement.{statement}
 use Rattle.text.proofs.Reader.finish.Tie as tie
 

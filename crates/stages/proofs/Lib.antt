@@ -1,0 +1,2 @@
+-- Laws that the proofs of the words' functions cite.
+pub mod Negative

@@ -1,2 +1,0 @@
--- Laws that the proofs of the reader's functions cite.
-pub mod Negative
