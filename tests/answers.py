@@ -1,7 +1,8 @@
-"""The program `calls` written apart from the unit, from document 01's words: what it prints for the words of its input.
+"""The program `calls` written apart from the unit, from the documents' words: what it prints for the words of its input.
 
 The list of a plan's orders is the one thing that is not computed here: document 01 leaves it open. It is read from the bytes that the program of
 tests/dump.c writes. What a plan leaves is computed by the machine written apart, and held to the solver."""
+import collections
 import struct
 import subprocess
 
@@ -229,7 +230,26 @@ def write(plans, words):
     return answered(made, ["bytes", "orders", "next"], [("slice", lent)])
 
 
-CALLS = {1: bid, 2: seal, 3: opened, 4: clear, 5: run, 6: ask, 7: total, 8: write}
+def view(plans, words):
+    n, m, holder, holders, results, lent = words.number(), words.number(), words.number(), words.slice(), words.signed_slice(), words.signed_slice()
+    words.ended()
+
+    def made():
+        counts(n, m)
+        lengths((holders, n), (results, orders.result_count(n, m)), (lent, orders.result_count(n, m)))
+        bids = collections.defaultdict(list)
+        for i, owner in enumerate(holders):
+            bids[owner].append(i)
+        if holder not in bids:
+            raise Refused(16, 0)
+        page = [0] * n + results[n:]
+        for i in bids[holder]:
+            page[i] = results[i]
+        return [line("view", page)]
+    return answered(made, [], [("view", lent)])
+
+
+CALLS = {1: bid, 2: seal, 3: opened, 4: clear, 5: run, 6: ask, 7: total, 8: write, 9: view}
 
 
 def answer(plans, data):

@@ -19,6 +19,7 @@ STORED = pathlib.Path(__file__).parent / "calls.txt"
 LEAST, GREATEST, WORDS = -2**31, 2**31 - 1, 2**32
 COUNTS = [(0, 1), (1, 1), (2, 2), (3, 3), (5, 4), (12, 2), (BIDS, 1)]  # their plans are few and short enough to be run here
 CELLS = [0, 1, orders.P - 1, orders.P // 2, orders.P // 2 + 1]
+HOLDERS = [0, 1, 7, 9, 2**31 - 1, 2**31, 2**31 + 7, WORDS - 2, WORDS - 1]  # every number of 32 bits is a holder's
 HIGH = [orders.P, orders.P + 1, 2**31, WORDS - 1]  # no residues
 
 
@@ -160,6 +161,27 @@ def write(draw, plans, faults):
     return call(8, asked(draw, plans, faults), lent)
 
 
+def view(draw, plans, faults):
+    n, m = draw.randint(0, BIDS), draw.randint(1, POOLS)
+    few = draw.sample(HOLDERS, draw.randint(1, 4)) + [draw.randrange(WORDS)]
+    holders = [draw.choice(few) for _ in range(n)]
+    holder = draw.choice(holders + few[:1])
+    results, lent = ([draw.choice([LEAST, GREATEST, -1, 0, draw.randint(1, QUANTITY)]) for _ in range(orders.result_count(n, m))] for _ in range(2))
+    for _ in range(faults):
+        kind = draw.randrange(5)
+        if kind == 0:
+            n, m = bad_counts(draw, n, m)
+        elif kind == 1:
+            holders = other_length(draw, holders)
+        elif kind == 2:
+            results = other_length(draw, results)
+        elif kind == 3:
+            lent = other_length(draw, lent)
+        else:
+            holder = draw.choice([0, holder ^ 1, holder ^ 2**31, (holder + 1) % WORDS, WORDS - 1])
+    return call(9, [n, m, holder], holders, results, lent)
+
+
 # ---- Input that is no call's
 
 def unreadable(draw, data):
@@ -198,6 +220,7 @@ CALLS = {
     6: (ask, {0, 1, 2, 13}),
     7: (total, {0, 1, 2}),
     8: (write, {0, 1, 2, 13, 14}),
+    9: (view, {0, 1, 2, 3, 16}),
 }
 
 

@@ -78,6 +78,7 @@ fn said(v: Verdict) -> Refusal
         Verdict::Position => Refusal(13, 0),
         Verdict::Room => Refusal(14, 0),
         Verdict::Cell(at) => Refusal(15, at),
+        Verdict::Holder => Refusal(16, 0),
     }
 }
 

@@ -23,6 +23,7 @@ use printing::print_verdict;
 use printing::print_words;
 use runner::run;
 use sealing::seal;
+use views::view;
 use words::after_slice;
 use words::copy_bytes;
 use words::copy_signed;
@@ -35,6 +36,7 @@ use words::room_for_signed;
 use words::room_for_words;
 use words::signed;
 use words::slice_length;
+use words::word;
 
 pub struct Call {}
 
@@ -54,6 +56,8 @@ impl Call {
     pub const TOTAL: usize = 7;
 
     pub const WRITE: usize = 8;
+
+    pub const VIEW: usize = 9;
 }
 
 // ---- What several calls print
@@ -259,5 +263,39 @@ pub fn call_write(input: &[u8]) -> bool {
     let mut bytes = room_for_bytes();
     let size = slice_length(input, 4);
     lend_slice(input, &mut bytes[..size]);
+    true
+}
+
+// ---- A holder's view: n, m and the holder; holders, results, view
+
+fn copy_view(input: &[u8], holders: &mut [u32], results: &mut [i32], out: &mut [i32]) {
+    let second = after_slice(input, 4);
+    let third = after_slice(input, second);
+    copy_words(input, 4, holders);
+    copy_signed(input, second, results);
+    copy_signed(input, third, out);
+}
+
+fn lend_view(input: &[u8], holders: &mut [u32], results: &mut [i32], out: &mut [i32]) {
+    copy_view(input, holders, results, out);
+    let n = number(input, 1);
+    let m = number(input, 2);
+    print_verdict(view(n, m, holders, word(input, 3), results, out));
+    print_integers(b"view", out);
+}
+
+pub fn call_view(input: &[u8]) -> bool {
+    if !is_call(input, 4, 3) {
+        return false;
+    }
+    let second = after_slice(input, 4);
+    let third = after_slice(input, second);
+    let mut holders = room_for_words();
+    let mut results = room_for_signed();
+    let mut out = room_for_signed();
+    let h = slice_length(input, 4);
+    let r = slice_length(input, second);
+    let v = slice_length(input, third);
+    lend_view(input, &mut holders[..h], &mut results[..r], &mut out[..v]);
     true
 }

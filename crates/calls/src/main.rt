@@ -7,6 +7,7 @@ use crate::calls::call_book;
 use crate::calls::call_open;
 use crate::calls::call_run;
 use crate::calls::call_total;
+use crate::calls::call_view;
 use crate::calls::call_write;
 use libc::STDIN_FILENO;
 use libc::STDOUT_FILENO;
@@ -26,6 +27,7 @@ fn call(input: &[u8]) -> bool {
         Call::ASK => call_ask(input),
         Call::TOTAL => call_total(input),
         Call::WRITE => call_write(input),
+        Call::VIEW => call_view(input),
         _ => false,
     }
 }

@@ -6,3 +6,4 @@ pub mod OrderFacts
 pub mod PlanFacts
 pub mod OutcomeFacts
 pub mod SettleFacts
+pub mod ViewFacts

@@ -5,7 +5,7 @@ use Rattle.definitions.specs.declared.Order.{Order}
 use Rattle.definitions.specs.declared.Parts.{Parts}
 use Rattle.definitions.specs.declared.Order.the-variants.{Constant, Sum, Difference, Product, Less, Equal}
 use Rattle.definitions.specs.declared.Verdict.{Verdict}
-use Rattle.definitions.specs.declared.Verdict.the-variants.{Accepted, BidCount, PoolCount, Length, Pool, Price, Quantity, Capacity, Diagonal, CutShort, Kind, Form, Operand, Position, Room, Cell}
+use Rattle.definitions.specs.declared.Verdict.the-variants.{Accepted, BidCount, PoolCount, Length, Pool, Price, Quantity, Capacity, Diagonal, CutShort, Kind, Form, Operand, Position, Room, Cell, Holder}
 
 -- "Each refusal is a number and a place"
 pub data Refusal : Type 0 where
@@ -60,6 +60,7 @@ refusalOf (Operand offset) = refuse 12 offset
 refusalOf Position = refuse 13 0
 refusalOf Room = refuse 14 0
 refusalOf (Cell c) = refuse 15 c
+refusalOf Holder = refuse 16 0
 
 -- "An order begins with its kind, 0 to 5"
 abbrev pub kindOf : Order → ℕ

@@ -5,7 +5,7 @@ use mathlib.Core.Path.{_≡_}
 use mathlib.Core.Bool.{Bool, cond, _&&_, _||_}
 use mathlib.Core.List.{List, map}
 use lib.Dec.{ltb, eqb}
-use lib.ListN.{length, take, drop}
+use lib.ListN.{length, getD, take, drop}
 use lib.IntN.{ℤ, pos, negℤ}
 use Rattle.definitions.specs.Limits.{bidLimit, poolLimit, priceLimit, quantityLimit, capacityLimit, cellCount, modulus, bidNumbers}
 use Rattle.definitions.specs.Arithmetic.{within, eqZ, reading}
@@ -101,16 +101,24 @@ cellsRefusal sheet = firstFrom 0 (length sheet) (λ c. cond (ltb (cell sheet c) 
 
 -- ---- Opening
 
--- of n, m, the sheet and the length of the slice for the results: 1, 2, 3, then 15
+-- of n, m and the length of a slice for the results: 1, 2, 3
+abbrev pub resultsRefusal : (n m results : ℕ) → Refusal
+resultsRefusal n m results = first (countsRefusal n m) (lengthRefusal (eqb results (resultCount n m)))
+
+-- with the sheet: its length too, then 15
 unfoldable pub openRefusal : (n m : ℕ) (sheet : List ℕ) (results : ℕ) → Refusal
 openRefusal n m sheet results =
-    first (countsRefusal n m)
-    (first (lengthRefusal (eqb (length sheet) cellCount && eqb results (resultCount n m)))
+    first (resultsRefusal n m results)
+    (first (lengthRefusal (eqb (length sheet) cellCount))
     (cellsRefusal sheet))
 
 -- "Opening copies the signed readings of all n + m × m + 2 × m result cells to a slice of that length."
 unfoldable pub openedResults : (n m : ℕ) (sheet : List ℕ) → List ℤ
 openedResults n m sheet = map reading (take (resultCount n m) (drop (firstResult n m) sheet))
+
+-- one of the opened results: n amounts, m × m flows, then price and presence of each pool
+abbrev pub resultAt : List ℤ → ℕ → ℤ
+resultAt results i = getD results i (pos 0)
 
 -- the slice that opening leaves
 unfoldable pub openSlice : (n m : ℕ) (sheet : List ℕ) (out : List ℤ) → List ℤ

@@ -1,4 +1,4 @@
--- Document 01 as definitions, in its order.
+-- Document 01 as definitions, in its order; then what document 02 adds.
 pub mod Limits
 pub mod Arithmetic
 pub mod Book
@@ -12,3 +12,4 @@ pub mod Plan
 pub mod Outcome
 pub mod Examples
 pub mod Settle
+pub mod Views

@@ -3,14 +3,14 @@ use Prim.Native.Nat.{ℕ, zero, suc, _+_, _-_, _*_, _/_, _%_}
 use mathlib.Core.Bool.{Bool, true, false, cond, _&&_, _||_}
 use mathlib.Core.List.{List, [], _∷_, _++_}
 use lib.Dec.{ltb, eqb, leb}
-use lib.ListN.{length, getD, take, drop}
+use lib.ListN.{length, take, drop}
 use lib.IntN.{ℤ, pos, negsuc, negℤ}
 use lib.Signed.{ltZ}
 use Rattle.definitions.specs.Limits.{cellCount, bidNumbers, poolResults}
 use Rattle.definitions.specs.Arithmetic.{joinTo, within}
 use Rattle.definitions.specs.Book.{Book, book}
 use Rattle.definitions.specs.Answers.{Refusal, none, refuse, numberOf, placeOf}
-use Rattle.definitions.specs.Calls.{countsRefusal, sealRefusal, openedResults}
+use Rattle.definitions.specs.Calls.{countsRefusal, sealRefusal, openedResults, resultAt}
 use Rattle.definitions.specs.Plan.{Plan}
 use Rattle.definitions.specs.Outcome.{planRun, clearWelfare}
 
@@ -199,10 +199,6 @@ priceLine pool price presence = priceWord ++ (space ++ (decimal pool ++ (space +
 -- the last line
 unfoldable pub welfareLine : ℤ → List ℕ
 welfareLine w = welfareWord ++ (space ++ (decimalZ w ++ newline))
-
--- one of the opened results: n amounts, m × m flows, then price and presence of each pool
-abbrev pub resultAt : List ℤ → ℕ → ℤ
-resultAt results i = getD results i (pos 0)
 
 -- the lines of all bids
 unfoldable pub bidLines : (n : ℕ) → List ℤ → List ℕ

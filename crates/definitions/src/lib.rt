@@ -62,6 +62,7 @@ pub enum Verdict {
     Position,
     Room,
     Cell(usize),
+    Holder,
 }
 
 // An order by its numbers: its kind, its target, its constant, and the two cells that it reads; 0 where it has none.

@@ -1,4 +1,4 @@
-// Who is turned away: judges counts, a bid alone, a whole book, and the cells of a sheet.
+// Who is turned away: judges counts, a number of results, a bid alone, a whole book, and the cells of a sheet.
 ghost use mathlib.Core.Path.{_≡_};
 ghost use mathlib.Core.Bool.{_&&_};
 ghost use mathlib.Core.List.{[]};
@@ -9,7 +9,7 @@ ghost use Rattle.definitions.specs.Limits.{bidLimit, poolLimit, cellCount, bidN
 ghost use Rattle.definitions.specs.Arithmetic.{within};
 ghost use Rattle.definitions.specs.Answers.{refusalOf, numbered, first};
 ghost use Rattle.definitions.specs.Book.{book};
-ghost use Rattle.definitions.specs.Calls.{poolsRefusal, countsRefusal, lengthRefusal, bidFault, bidRefusal, bidsRefusal, capacityFault, capacitiesRefusal, sealRefusal, cellsRefusal};
+ghost use Rattle.definitions.specs.Calls.{poolsRefusal, countsRefusal, lengthRefusal, bidFault, bidRefusal, bidsRefusal, capacityFault, capacitiesRefusal, sealRefusal, cellsRefusal, resultsRefusal};
 use answers::is_accepted;
 use definitions::Limits;
 use definitions::Verdict;
@@ -35,6 +35,20 @@ pub fn judge_counts(n: usize, m: usize) -> Verdict
         return Verdict::BidCount;
     }
     judge_pools(m)
+}
+
+// Both counts and how many results there are: 1, 2, 3.
+pub fn judge_results(n: usize, m: usize, results: usize) -> Verdict
+    ensures { λ r. ⌜ refusalOf r ≡ resultsRefusal n m results ⌝ }
+{
+    let by_counts = judge_counts(n, m);
+    if !is_accepted(by_counts) {
+        return by_counts;
+    }
+    if results != n + m * m + Limits::POOL_RESULTS * m {
+        return Verdict::Length;
+    }
+    Verdict::Accepted
 }
 
 // The lengths of both tables and of the sheet: 3.

@@ -9,7 +9,8 @@ use borrow.Author.Tests.{ltb-false, eqb-true, eqb-false}
 use Rattle.definitions.specs.Limits.{bidLimit, poolLimit, cellCount, bidNumbers}
 use Rattle.definitions.specs.Answers.{Refusal, none, refuse, first}
 use Rattle.definitions.specs.Book.{Book}
-use Rattle.definitions.specs.Calls.{poolsRefusal, countsRefusal, lengthRefusal, tablesRight, bidsRefusal, capacitiesRefusal, sealRefusal}
+use Rattle.definitions.specs.Sheet.{resultCount}
+use Rattle.definitions.specs.Calls.{poolsRefusal, countsRefusal, lengthRefusal, tablesRight, bidsRefusal, capacitiesRefusal, sealRefusal, resultsRefusal}
 use Rattle.laws.specs.Tests.{and-left, and-right}
 use Rattle.laws.specs.Refusal.{not-refused, test-passed, first-left, first-right}
 
@@ -37,6 +38,19 @@ counted n m = go (ltb bidLimit n) refl
     go : (a : Bool) → ltb bidLimit n ≡ a → cond a (refuse 1 0) (poolsRefusal m) ≡ none → Counts n m
     go true p e = not-refused e
     go false p e = record { bids = ltb-false bidLimit n p; pools = pools-counted m e }
+
+-- the same with a number of results
+pub record Results (n m results : ℕ) : Type 0 where
+  pub counts : Counts n m
+  pub count : results ≡ resultCount n m
+
+pub results-counted : (n m results : ℕ) → resultsRefusal n m results ≡ none → Results n m results
+results-counted n m results e =
+    let by-length : Refusal = lengthRefusal (eqb results (resultCount n m)) in
+    record {
+      counts = counted n m (first-left (countsRefusal n m) by-length e);
+      count = eqb-true _ _ (test-passed (eqb results (resultCount n m)) 3 0 (first-right (countsRefusal n m) by-length e));
+    }
 
 -- which lengths the tables and the sheet have
 pub record Lengths (n m bids capacities cells : ℕ) : Type 0 where

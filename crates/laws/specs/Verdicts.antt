@@ -3,7 +3,7 @@ use mathlib.Core.Path.{_≡_, refl, sym, ap, _∙_}
 use mathlib.Core.List.{[], _∷_}
 use lib.ListN.{getD}
 use Rattle.definitions.specs.declared.Verdict.{Verdict}
-use Rattle.definitions.specs.declared.Verdict.the-variants.{Accepted, BidCount, PoolCount, Length, Pool, Price, Quantity, Capacity, Diagonal, CutShort, Kind, Form, Operand, Position, Room, Cell}
+use Rattle.definitions.specs.declared.Verdict.the-variants.{Accepted, BidCount, PoolCount, Length, Pool, Price, Quantity, Capacity, Diagonal, CutShort, Kind, Form, Operand, Position, Room, Cell, Holder}
 use Rattle.definitions.specs.Answers.{Refusal, numberOf, placeOf, refusalOf}
 
 -- the verdict that states a refusal: one for each number from 0
@@ -12,7 +12,7 @@ verdictOf r =
     let at = placeOf r in
     getD
     (Accepted ∷ BidCount ∷ PoolCount ∷ Length ∷ Pool at ∷ Price at ∷ Quantity at ∷ Capacity at ∷ Diagonal at
-    ∷ CutShort at ∷ Kind at ∷ Form at ∷ Operand at ∷ Position ∷ Room ∷ Cell at ∷ [])
+    ∷ CutShort at ∷ Kind at ∷ Form at ∷ Operand at ∷ Position ∷ Room ∷ Cell at ∷ Holder ∷ [])
     (numberOf r) Accepted
 
 pub verdict-back : (v : Verdict) → verdictOf (refusalOf v) ≡ v
@@ -32,6 +32,7 @@ verdict-back (Operand at) = refl
 verdict-back Position = refl
 verdict-back Room = refl
 verdict-back (Cell at) = refl
+verdict-back Holder = refl
 
 pub refusal-injective : (v w : Verdict) → refusalOf v ≡ refusalOf w → v ≡ w
 refusal-injective v w e = sym (verdict-back v) ∙ ap verdictOf e ∙ verdict-back w

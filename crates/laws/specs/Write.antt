@@ -1,10 +1,11 @@
 -- A loop that writes a list into another, element by element (`paste` of lib.Seq says what it has written after n turns), and stores behind stores.
-use Prim.Native.Nat.{ℕ, suc, _+_, _<_}
+use Prim.Native.Nat.{ℕ, suc, _+_, _<_, _≤_}
 use mathlib.Core.Path.{_≡_, sym, ap, _∙_}
-use mathlib.Core.List.{List, [], _∷_, _++_}
+use mathlib.Core.List.{List, [], _∷_, _++_, append-nil}
+use native.Mathlib.Omega.{arith}
 use native.Mathlib.Nat.{add-zero, suc-add, add-suc}
 use native.Mathlib.Numerals.{add-one}
-use lib.ListN.{length, getD, take, drop, set}
+use lib.ListN.{length, getD, take, drop, set, drop-of-length-le}
 use lib.Seq.{sets, paste, paste-suc, take-length, take-at, drop-append-add}
 
 module _ {A : Type 0} where
@@ -19,6 +20,10 @@ module _ {A : Type 0} where
   -- the last turn's end
   pub all-written : (d₀ d : List A) (at : ℕ) (s : List A) (i : ℕ) → d ≡ paste d₀ at s i → i ≡ length s → d ≡ written d₀ at s
   all-written d₀ d at s i e q = e ∙ ap (paste d₀ at s) q ∙ ap (λ (l : List A). take at d₀ ++ l ++ drop (at + length s) d₀) (take-length s)
+
+  -- a write over all of a list that is no longer
+  pub written-over : (d s : List A) → length d ≤ length s → written d 0 s ≡ s
+  written-over d s h = ap (λ (l : List A). s ++ l) (drop-of-length-le d {i = 0 + length s} (omega arith)) ∙ append-nil s
 
   -- a write just behind a first part
   pub behind : (p r : List A) (at : ℕ) (s : List A) → length p ≡ at → written (p ++ r) at s ≡ p ++ s ++ drop (length s) r

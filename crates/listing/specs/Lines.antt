@@ -10,7 +10,8 @@ use lib.ListN.{length, length-append}
 use lib.IntN.{ℤ}
 use Rattle.definitions.specs.Limits.{poolResults}
 use Rattle.definitions.specs.Arithmetic.{joinTo}
-use Rattle.definitions.specs.Settle.{decimalZ, space, newline, bidLine, flowLine, priceLine, resultAt}
+use Rattle.definitions.specs.Calls.{resultAt}
+use Rattle.definitions.specs.Settle.{decimalZ, space, newline, bidLine, flowLine, priceLine}
 use Rattle.listing.specs.Put.{Put, nothing, then-put, same-bytes, room-second}
 
 -- the last field of a line

@@ -2,12 +2,11 @@
 use Prim.Native.Nat.{ℕ}
 use mathlib.Core.Bool.{Bool, cond, _&&_}
 use mathlib.Core.List.{List}
-use lib.Dec.{eqb, leb}
+use lib.Dec.{leb}
 use lib.ListN.{length}
 use lib.IntN.{ℤ}
-use Rattle.definitions.specs.Sheet.{resultCount}
 use Rattle.definitions.specs.Answers.{isNone}
-use Rattle.definitions.specs.Calls.{countsRefusal}
+use Rattle.definitions.specs.Calls.{resultsRefusal}
 use Rattle.definitions.specs.Plan.{over}
 use Rattle.definitions.specs.Settle.{listing, refusedText, unreadableText}
 
@@ -25,7 +24,7 @@ textSlice fits text out = cond fits (over text out) out
 
 -- a listing is written if the counts are within their limits, the results are as many as they call for and there is room
 unfoldable pub listable : (n m results room : ℕ) → Bool
-listable n m results room = isNone (countsRefusal n m) && (eqb results (resultCount n m) && leb textRoom room)
+listable n m results room = isNone (resultsRefusal n m results) && leb textRoom room
 
 -- the size of a listing
 unfoldable pub listingSize : (n m : ℕ) (results : List ℤ) (w : ℤ) (room : ℕ) → ℕ

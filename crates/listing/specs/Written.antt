@@ -4,16 +4,15 @@ use mathlib.Core.Path.{_≡_, refl, sym, _∙_}
 use mathlib.Core.Bool.{Bool, true, false, true≢false}
 use mathlib.Core.List.{List}
 use native.Mathlib.Nat.{zero-add}
-use lib.Dec.{eqb}
 use lib.ListN.{length}
-use borrow.Author.Tests.{eqb-true, leb-true}
+use borrow.Author.Tests.{leb-true}
 use Rattle.definitions.specs.Limits.{bidLimit, poolLimit}
 use Rattle.definitions.specs.Sheet.{resultCount}
 use Rattle.definitions.specs.Answers.{isNone}
-use Rattle.definitions.specs.Calls.{countsRefusal}
+use Rattle.definitions.specs.Calls.{resultsRefusal}
 use Rattle.laws.specs.Tests.{and-left, and-right}
 use Rattle.laws.specs.Refusal.{is-none}
-use Rattle.laws.specs.Sizes.{counted}
+use Rattle.laws.specs.Sizes.{results-counted}
 use Rattle.listing.specs.Put.{Put, from-start}
 use Rattle.listing.specs.Text.{textRoom, textSize, textSlice, listable}
 
@@ -36,11 +35,11 @@ pub record Listable (n m results room : ℕ) : Type 0 where
 pub listable-facts : (n m results room : ℕ) → listable n m results room ≡ true → Listable n m results room
 unfolding listable
 listable-facts n m results room e =
-    let counts = counted n m (is-none (countsRefusal n m) (and-left (isNone (countsRefusal n m)) _ e)) in
-    let rest = and-right (isNone (countsRefusal n m)) _ e in
+    let judged = isNone (resultsRefusal n m results) in
+    let sizes = results-counted n m results (is-none (resultsRefusal n m results) (and-left judged _ e)) in
     record {
-      bids = counts .bids;
-      pools = counts .pools .most;
-      count = eqb-true _ _ (and-left (eqb results (resultCount n m)) _ rest);
-      roomy = leb-true _ _ (and-right (eqb results (resultCount n m)) _ rest);
+      bids = sizes .counts .bids;
+      pools = sizes .counts .pools .most;
+      count = sizes .count;
+      roomy = leb-true _ _ (and-right judged _ e);
     }

@@ -11,7 +11,7 @@ ghost use Rattle.listing.specs.Put.{Put};
 ghost use Rattle.listing.specs.Text.{listable, listingSize, listingSlice, refusedSize, refusedSlice, unreadableSize, unreadableSlice};
 use answers::is_accepted;
 use definitions::Limits;
-use judging::judge_counts;
+use judging::judge_results;
 
 // The bytes that a caller lends: no text is longer.
 pub struct Listing {}
@@ -231,10 +231,7 @@ fn put_refused(out: &mut [u8], number: usize, place: usize) -> usize
 fn can_list(n: usize, m: usize, results: usize, room: usize) -> bool
     ensures { λ r. ⌜ r ≡ listable n m results room ⌝ }
 {
-    if !is_accepted(judge_counts(n, m)) {
-        return false;
-    }
-    if results != n + m * m + Limits::POOL_RESULTS * m {
+    if !is_accepted(judge_results(n, m, results)) {
         return false;
     }
     Listing::ROOM <= room

@@ -1,7 +1,7 @@
 -- What is known of counts, lengths and cells that opening does not refuse, and the slice that it leaves.
 use Prim.Native.Nat.{ℕ, _*_, _≤_, _<_}
 use mathlib.Core.Path.{_≡_, sym, ap}
-use mathlib.Core.Bool.{false, _&&_}
+use mathlib.Core.Bool.{false}
 use mathlib.Core.List.{List}
 use native.Mathlib.Nat.{mul-le-mul-right}
 use lib.Dec.{eqb}
@@ -10,43 +10,32 @@ use lib.ListN.{length}
 use borrow.Author.Tests.{eqb-true}
 use Rattle.definitions.specs.Limits.{poolLimit, cellCount, modulus}
 use Rattle.definitions.specs.Answers.{Refusal, none, first, unless, isNone}
-use Rattle.definitions.specs.Sheet.{resultCount}
 use Rattle.definitions.specs.Machine.{cell}
-use Rattle.definitions.specs.Calls.{countsRefusal, lengthRefusal, cellsRefusal, openRefusal, openedResults, openSlice}
-use Rattle.laws.specs.Tests.{and-left, and-right}
+use Rattle.definitions.specs.Calls.{resultsRefusal, lengthRefusal, cellsRefusal, openRefusal, openedResults, openSlice}
 use Rattle.laws.specs.Refusal.{test-passed, first-left, first-right, unless-refused}
-use Rattle.laws.specs.Sizes.{Counts, counted}
+use Rattle.laws.specs.Sizes.{Results, results-counted}
 use Rattle.judging.specs.Cells.{cells-below}
 
 -- the square of a pool count, for omega
 pub square : (m : ℕ) → m ≤ poolLimit → m * m ≤ poolLimit * m
 square m h = mul-le-mul-right m h
 
-pub record Lengths (n m cells results : ℕ) : Type 0 where
-  pub sheet : cells ≡ cellCount
-  pub out : results ≡ resultCount n m
-
-pub measured : (n m cells results : ℕ) → lengthRefusal (eqb cells cellCount && eqb results (resultCount n m)) ≡ none → Lengths n m cells results
-measured n m cells results e =
-    let both = test-passed (eqb cells cellCount && eqb results (resultCount n m)) 3 0 e in
-    record { sheet = eqb-true _ _ (and-left (eqb cells cellCount) _ both); out = eqb-true _ _ (and-right (eqb cells cellCount) _ both) }
-
 pub record Openable (n m : ℕ) (sheet : List ℕ) (results : ℕ) : Type 0 where
-  pub counts : Counts n m
-  pub lengths : Lengths n m (length sheet) results
+  pub sizes : Results n m results
+  pub cells : length sheet ≡ cellCount
   pub below : (c : ℕ) → cell sheet c < modulus
 
 pub openable : (n m : ℕ) (sheet : List ℕ) (results : ℕ) → openRefusal n m sheet results ≡ none → Openable n m sheet results
 unfolding openRefusal
 openable n m sheet results e =
-    let byCounts : Refusal = countsRefusal n m in
-    let byLengths : Refusal = lengthRefusal (eqb (length sheet) cellCount && eqb results (resultCount n m)) in
-    let byCells : Refusal = cellsRefusal sheet in
-    let after : first byLengths byCells ≡ none = first-right byCounts (first byLengths byCells) e in
+    let by-results : Refusal = resultsRefusal n m results in
+    let by-length : Refusal = lengthRefusal (eqb (length sheet) cellCount) in
+    let by-cells : Refusal = cellsRefusal sheet in
+    let after : first by-length by-cells ≡ none = first-right by-results (first by-length by-cells) e in
     record {
-      counts = counted n m (first-left byCounts (first byLengths byCells) e);
-      lengths = measured n m (length sheet) results (first-left byLengths byCells after);
-      below = cells-below sheet (first-right byLengths byCells after);
+      sizes = results-counted n m results (first-left by-results (first by-length by-cells) e);
+      cells = eqb-true _ _ (test-passed (eqb (length sheet) cellCount) 3 0 (first-left by-length by-cells after));
+      below = cells-below sheet (first-right by-length by-cells after);
     }
 
 -- ---- the slice after the call

@@ -1,15 +1,14 @@
 -- The readings of some cells in a row, and the result cells' readings.
 use Prim.Native.Nat.{ℕ, _+_, _<_, _≤_}
 use mathlib.Core.Path.{_≡_, ap, ap₂, _∙_}
-use mathlib.Core.List.{List, map, _++_, append-nil}
+use mathlib.Core.List.{List, map}
 use native.Mathlib.Omega.{arith}
 use lib.IntN.{ℤ, pos}
-use lib.ListN.{length, getD, take, drop, length-map, length-drop, List·getD-map, drop-of-length-le}
+use lib.ListN.{length, getD, take, drop, length-map, length-drop, List·getD-map}
 use lib.Seq.{length-take-le, getD-take, getD-drop}
 use Rattle.definitions.specs.Arithmetic.{reading}
 use Rattle.definitions.specs.Sheet.{firstResult, resultCount}
 use Rattle.definitions.specs.Calls.{openedResults}
-use Rattle.laws.specs.Write.{written}
 
 -- of k cells, from one on
 abbrev pub readings : List ℕ → (from k : ℕ) → List ℤ
@@ -24,10 +23,6 @@ pub reading-at : (sheet : List ℕ) (from k i : ℕ) → i < k → getD (reading
 reading-at sheet from k i h =
     List·getD-map reading (take k (drop from sheet)) i 0
     ∙ ap reading (getD-take k (drop from sheet) i 0 h ∙ getD-drop from sheet i 0)
-
--- s written over a list that is no longer
-pub written-over : (out s : List ℤ) → length out ≤ length s → written out 0 s ≡ s
-written-over out s h = ap (λ (l : List ℤ). s ++ l) (drop-of-length-le out {i = 0 + length s} (omega arith)) ∙ append-nil s
 
 -- the result cells are those that opening copies
 pub opened : (n m : ℕ) (sheet : List ℕ) (from k : ℕ) → from ≡ firstResult n m → k ≡ resultCount n m → readings sheet from k ≡ openedResults n m sheet

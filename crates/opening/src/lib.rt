@@ -1,24 +1,22 @@
 // Opening: copies the signed readings of the result cells.
 ghost use mathlib.Core.Path.{_≡_};
-ghost use mathlib.Core.Bool.{_&&_};
 ghost use mathlib.Core.List.{map};
 ghost use Prim.Native.Nat.{ℕ, _+_, _<_, _≤_};
-ghost use lib.Dec.{eqb};
 ghost use lib.ListN.{length, take, drop};
 ghost use Rattle.definitions.specs.Limits.{bidLimit, poolLimit, cellCount, modulus};
 ghost use Rattle.definitions.specs.Arithmetic as arithmetic;
 ghost use Rattle.definitions.specs.Answers.{refusalOf};
 ghost use Rattle.definitions.specs.Sheet.{firstResult, resultCount};
 ghost use Rattle.definitions.specs.Machine.{cell};
-ghost use Rattle.definitions.specs.Calls.{lengthRefusal, openRefusal, openedResults, openSlice};
+ghost use Rattle.definitions.specs.Calls.{openRefusal, openedResults, openSlice};
 use answers::is_accepted;
 use definitions::Limits;
 use definitions::Verdict;
 use judging::judge_cells;
-use judging::judge_counts;
+use judging::judge_results;
 use residues::reading;
 
-// The first result cell, and how many there are.
+// The first result cell.
 fn first_result(n: usize, m: usize) -> usize
     requires { ⌜ n ≤ bidLimit ⌝ }
     requires { ⌜ m ≤ poolLimit ⌝ }
@@ -27,40 +25,16 @@ fn first_result(n: usize, m: usize) -> usize
     Limits::BID_NUMBERS * n + m * m
 }
 
-fn result_count(n: usize, m: usize) -> usize
-    requires { ⌜ n ≤ bidLimit ⌝ }
-    requires { ⌜ m ≤ poolLimit ⌝ }
-    ensures { λ r. ⌜ r ≡ resultCount n m ⌝ }
-{
-    n + m * m + Limits::POOL_RESULTS * m
-}
-
-// The lengths of the sheet and of the slice for the results: 3.
-fn judge_lengths(n: usize, m: usize, cells: usize, results: usize) -> Verdict
-    requires { ⌜ n ≤ bidLimit ⌝ }
-    requires { ⌜ m ≤ poolLimit ⌝ }
-    ensures { λ r. ⌜ refusalOf r ≡ lengthRefusal (eqb cells cellCount && eqb results (resultCount n m)) ⌝ }
-{
-    if cells != Limits::CELLS {
-        return Verdict::Length;
-    }
-    if results != result_count(n, m) {
-        return Verdict::Length;
-    }
-    Verdict::Accepted
-}
-
 // Counts, lengths, then the cells: 1, 2, 3, 15.
 fn judge_opening(n: usize, m: usize, sheet: &[u32], results: usize) -> Verdict
     ensures { λ r. ⌜ refusalOf r ≡ openRefusal n m (now (sheet .entry)) results ⌝ }
 {
-    let by_counts = judge_counts(n, m);
-    if !is_accepted(by_counts) {
-        return by_counts;
+    let by_results = judge_results(n, m, results);
+    if !is_accepted(by_results) {
+        return by_results;
     }
-    let by_lengths = judge_lengths(n, m, sheet.len(), results);
-    if !is_accepted(by_lengths) {
-        return by_lengths;
+    if sheet.len() != Limits::CELLS {
+        return Verdict::Length;
     }
     judge_cells(sheet)
 }

@@ -1,7 +1,6 @@
 -- A sheet that opening does not refuse: its results are those defined, and there is a listing of them wherever there is room.
 use Prim.Native.Nat.{ℕ, _+_, _≤_}
-use mathlib.Core.Path.{_≡_, refl, ap, _∙_}
-use mathlib.Core.Bool.{true, _&&_}
+use mathlib.Core.Path.{_≡_, refl, sym, ap, _∙_}
 use mathlib.Core.List.{List}
 use native.Mathlib.Omega.{arith}
 use native.Mathlib.Nat.{mul-le-mul-right}
@@ -9,16 +8,15 @@ use lib.Dec.{eqb, leb}
 use lib.IntN.{ℤ}
 use lib.ListN.{length, take, drop, length-map, length-drop}
 use lib.Seq.{length-take-le}
-use borrow.Author.Tests.{eqb-true, eq-eqb}
+use borrow.Author.Tests.{eqb-true}
 use Rattle.definitions.specs.Limits.{bidLimit, poolLimit, cellCount}
 use Rattle.definitions.specs.Arithmetic.{reading}
 use Rattle.definitions.specs.Sheet.{firstResult, resultCount}
 use Rattle.definitions.specs.Answers.{Refusal, none, first, unless}
-use Rattle.definitions.specs.Calls.{countsRefusal, lengthRefusal, cellsRefusal, openRefusal, openedResults, openSlice}
+use Rattle.definitions.specs.Calls.{resultsRefusal, lengthRefusal, cellsRefusal, openRefusal, openedResults, openSlice}
 use Rattle.definitions.specs.Settle.{listing}
-use Rattle.laws.specs.Tests.{and-left}
 use Rattle.laws.specs.Refusal.{test-passed, first-left, first-right}
-use Rattle.laws.specs.Sizes.{Counts, counted}
+use Rattle.laws.specs.Sizes.{Counts, results-counted}
 use Rattle.listing.specs.Text.{textRoom, textSize, textSlice, listable, listingSize, listingSlice}
 
 -- the results of few bids and pools end on the sheet
@@ -26,19 +24,20 @@ pub results-end : (n m : ℕ) → n ≤ bidLimit → m ≤ poolLimit → firstRe
 results-end n m h k = omega (arith, mul-le-mul-right m k)
 
 module _ (n m : ℕ) (sheet : List ℕ) (results : ℕ) (opens : openRefusal n m sheet results ≡ none) where
-  pub counts-pass : countsRefusal n m ≡ none
+  passed : resultsRefusal n m results ≡ none
   unfolding openRefusal
-  counts-pass = first-left (countsRefusal n m) _ opens
-
-  lengths : (eqb (length sheet) cellCount && eqb results (resultCount n m)) ≡ true
-  unfolding openRefusal
-  lengths =
-      test-passed (eqb (length sheet) cellCount && eqb results (resultCount n m)) 3 0
-      (first-left (lengthRefusal (eqb (length sheet) cellCount && eqb results (resultCount n m))) (cellsRefusal sheet)
-      (first-right (countsRefusal n m) (first (lengthRefusal (eqb (length sheet) cellCount && eqb results (resultCount n m))) (cellsRefusal sheet)) opens))
+  passed = first-left (resultsRefusal n m results) _ opens
 
   pub few : Counts n m
-  few = counted n m counts-pass
+  few = results-counted n m results passed .counts
+
+  cells : length sheet ≡ cellCount
+  unfolding openRefusal
+  cells =
+      let by-length : Refusal = lengthRefusal (eqb (length sheet) cellCount) in
+      eqb-true _ _
+      (test-passed (eqb (length sheet) cellCount) 3 0
+      (first-left by-length (cellsRefusal sheet) (first-right (resultsRefusal n m results) (first by-length (cellsRefusal sheet)) opens)))
 
   opened-length : length (openedResults n m sheet) ≡ resultCount n m
   unfolding openedResults
@@ -48,7 +47,7 @@ module _ (n m : ℕ) (sheet : List ℕ) (results : ℕ) (opens : openRefusal n m
       (omega (
         arith,
         length-drop (firstResult n m) sheet,
-        eqb-true (length sheet) cellCount (and-left (eqb (length sheet) cellCount) _ lengths),
+        cells,
         results-end n m (few .bids) (few .pools .most),
       ))
 
@@ -58,7 +57,7 @@ module _ (n m : ℕ) (sheet : List ℕ) (results : ℕ) (opens : openRefusal n m
 
   pub listed : (room : ℕ) → listable n m (length (openedResults n m sheet)) room ≡ leb textRoom room
   unfolding listable
-  listed room = rw (counts-pass, opened-length, eq-eqb (resultCount n m) (resultCount n m) refl) refl
+  listed room = rw (opened-length ∙ sym (results-counted n m results passed .count), passed) refl
 
   -- the listing of what opening left, with a welfare written otherwise
   module _ (left : List ℤ) (w v : ℤ) (out : List ℕ) (same : left ≡ openedResults n m sheet) (welfare : w ≡ v) where

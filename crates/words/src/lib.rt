@@ -25,7 +25,7 @@ fn digit(x: u8) -> u32
 }
 
 // Word k, and 0 behind the last.
-fn word(input: &[u8], k: usize) -> u32
+pub fn word(input: &[u8], k: usize) -> u32
     ensures { λ r. ⌜ r ≡ wordAt (now (input .entry)) k ⌝ }
 {
     if input.len() / Words::SIZE <= k {

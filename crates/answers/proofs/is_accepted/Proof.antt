@@ -26,6 +26,7 @@ by-number (case.Operand at) = refl
 by-number case.Position = refl
 by-number case.Room = refl
 by-number (case.Cell at) = refl
+by-number case.Holder = refl
 
 returns : tie.Need-returns
 returns c = ap (λ (k : ℕ). eqb k 0) (c .before .said .ensures .0) ∙ by-number (c .before .before .args .v)

@@ -10,9 +10,9 @@ use lib.Seq.{paste, paste-zero}
 use mir.Syntax.{w32}
 use borrow.Author.Needs.{needs, scaled-fits}
 use Rattle.laws.specs.SignedTests.{back}
-use Rattle.laws.specs.Write.{one-more, all-written}
+use Rattle.laws.specs.Write.{one-more, all-written, written-over}
 use Rattle.residues.specs.Residues.{read-residue}
-use Rattle.opening.proofs.Readings.{readings, readings-length, reading-at, written-over}
+use Rattle.opening.proofs.Readings.{readings, readings-length, reading-at}
 use Rattle.opening.proofs.copy_readings.Statement.{statement}
 use Rattle.opening.proofs.copy_readings.Tie as tie
 

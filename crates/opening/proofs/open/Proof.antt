@@ -21,7 +21,7 @@ passed c = let-through (c .before .before .judge-opening .ensures) (c .before .i
 copy-results-requires : tie.Need-copy-results-requires
 copy-results-requires c κs =
     let h = openable _ _ _ _ (passed (c .before)) in
-    ((h .counts .bids, h .counts .pools .most), ((h .lengths .sheet, h .lengths .out), h .below))
+    ((h .sizes .counts .bids, h .sizes .counts .pools .most), ((h .cells, h .sizes .count), h .below))
 
 returns-2 : tie.Need-returns-2
 returns-2 c =

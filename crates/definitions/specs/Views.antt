@@ -1,0 +1,66 @@
+-- A holder's view of opened results, and the words of what is shown of views (document 02, request 1, "Each farm reads its own page").
+-- "A table of n holder numbers, unsigned 32-bit, goes with a book": its entry i is the holder of bid i + 1.
+use Prim.Native.Nat.{ℕ, _+_, _*_, _<_}
+use mathlib.Core.Path.{_≡_}
+use mathlib.Core.Bool.{Bool, false, cond, _&&_, _||_}
+use mathlib.Core.List.{List, [], _∷_}
+use lib.Dec.{eqb}
+use lib.ListN.{length, getD}
+use lib.IntN.{ℤ, pos, _+ℤ_}
+use Rattle.definitions.specs.Limits.{poolResults}
+use Rattle.definitions.specs.Answers.{Refusal, none, refuse, first, unless}
+use Rattle.definitions.specs.Calls.{lengthRefusal, resultsRefusal, resultAt}
+
+-- a holder is among those of a list; among those of the table: it has a bid there
+unfoldable pub among : (holder : ℕ) (holders : List ℕ) → Bool
+among holder [] = false
+among holder (h ∷ holders) = eqb h holder || among holder holders
+
+-- "A view for one holder .. shows the accepted amounts of that holder's bids, all flows and all pool prices with their presence, and 0 for
+-- every other bid": the table goes along the amounts, with which the results begin; flows and prices, behind them, stay
+unfoldable pub viewOf : (holder : ℕ) (holders : List ℕ) (results : List ℤ) → List ℤ
+viewOf holder [] results = results
+viewOf holder (h ∷ holders) [] = []
+viewOf holder (h ∷ holders) (amount ∷ results) = cond (eqb h holder) amount (pos 0) ∷ viewOf holder holders results
+
+-- ---- The call
+
+-- 16, "the holder has no bid in the table, place 0"
+abbrev pub holderRefusal : (holder : ℕ) (holders : List ℕ) → Refusal
+holderRefusal holder holders = cond (among holder holders) none (refuse 16 0)
+
+-- of n, m, the table, the holder, and the lengths of the results and of the slice for the view: "after 1, 2 and 3: 16"
+unfoldable pub viewRefusal : (n m : ℕ) (holders : List ℕ) (holder results view : ℕ) → Refusal
+viewRefusal n m holders holder results view =
+    first (resultsRefusal n m results)
+    (first (lengthRefusal (eqb (length holders) n && eqb view results))
+    (holderRefusal holder holders))
+
+-- "in a lent slice of their order and length": what the call leaves there
+unfoldable pub viewSlice : (n m : ℕ) (holders : List ℕ) (holder : ℕ) (results out : List ℤ) → List ℤ
+viewSlice n m holders holder results out =
+    unless (viewRefusal n m holders holder (length results) (length out)) (viewOf holder holders results) out
+
+-- ---- What is shown of views
+
+-- two results "agree on those shown numbers"
+pub record Agree (n m : ℕ) (holders : List ℕ) (holder : ℕ) (r s : List ℤ) : Type 0 where
+  pub amounts : (i : ℕ) → i < n → getD holders i 0 ≡ holder → resultAt r i ≡ resultAt s i
+  pub flows : (a b : ℕ) → a < m → b < m → resultAt r (n + (a * m + b)) ≡ resultAt s (n + (a * m + b))
+  -- the numbers of each pool, its price and its presence
+  pub prices : (p k : ℕ) → p < m → k < poolResults → resultAt r (n + m * m + (poolResults * p + k)) ≡ resultAt s (n + m * m + (poolResults * p + k))
+
+-- no holder stands twice in a list
+unfoldable pub Distinct : List ℕ → Type 0
+Distinct [] = Unit {0}
+Distinct (h ∷ holders) = (among h holders ≡ false) × Distinct holders
+
+-- a list of "the table's holders, one each"
+pub record OneEach (table holders : List ℕ) : Type 0 where
+  pub the-same : (holder : ℕ) → among holder holders ≡ among holder table
+  pub distinct : Distinct holders
+
+-- f of each, added up
+unfoldable pub sumOver : List ℕ → (ℕ → ℤ) → ℤ
+sumOver [] f = pos 0
+sumOver (h ∷ holders) f = f h +ℤ sumOver holders f

@@ -1,0 +1,30 @@
+-- What is known where a view is accepted, and the slice that is left.
+use Prim.Native.Nat.{ℕ}
+use mathlib.Core.Path.{_≡_, sym, ap}
+use mathlib.Core.Bool.{false, _&&_}
+use mathlib.Core.List.{List}
+use lib.Dec.{eqb}
+use lib.IntN.{ℤ}
+use lib.ListN.{length}
+use borrow.Author.Tests.{eqb-true}
+use Rattle.definitions.specs.Answers.{Refusal, none, first, unless, isNone}
+use Rattle.definitions.specs.Calls.{resultsRefusal, lengthRefusal}
+use Rattle.definitions.specs.Views.{holderRefusal, viewRefusal, viewOf, viewSlice}
+use Rattle.laws.specs.Tests.{and-right}
+use Rattle.laws.specs.Refusal.{test-passed, first-left, first-right, unless-refused}
+
+pub same-length : (n m : ℕ) (holders : List ℕ) (holder results view : ℕ) → viewRefusal n m holders holder results view ≡ none → view ≡ results
+unfolding viewRefusal
+same-length n m holders holder results view e =
+    let test = eqb (length holders) n && eqb view results in
+    let passed = test-passed test 3 0 (first-left (lengthRefusal test) (holderRefusal holder holders) (first-right (resultsRefusal n m results) _ e)) in
+    eqb-true _ _ (and-right (eqb (length holders) n) _ passed)
+
+module _ (n m : ℕ) (holders : List ℕ) (holder : ℕ) (results out : List ℤ) where
+  pub slice-written : viewRefusal n m holders holder (length results) (length out) ≡ none → viewOf holder holders results ≡ viewSlice n m holders holder results out
+  unfolding viewSlice
+  slice-written e = sym (ap (λ (r : Refusal). unless r (viewOf holder holders results) out) e)
+
+  pub slice-kept : isNone (viewRefusal n m holders holder (length results) (length out)) ≡ false → out ≡ viewSlice n m holders holder results out
+  unfolding viewSlice
+  slice-kept e = sym (unless-refused (viewRefusal n m holders holder (length results) (length out)) (viewOf holder holders results) out e)

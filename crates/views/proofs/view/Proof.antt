@@ -1,0 +1,41 @@
+-- `view` meets its contract: a refusal writes nothing, and what is accepted meets what writing requires.
+use mathlib.Core.Path.{_≡_, _∙_}
+use lib.ListN.{length}
+use borrow.Author.Needs.{needs}
+use Rattle.definitions.specs.Answers.{none}
+use Rattle.definitions.specs.Views.{viewRefusal}
+use Rattle.laws.specs.Search.{turned-away, let-through}
+use Rattle.views.proofs.Left.{same-length, slice-written, slice-kept}
+use Rattle.views.proofs.view.Statement.{statement}
+use Rattle.views.proofs.view.Tie as tie
+
+returns : tie.Need-returns
+returns c =
+    let a = c .before .before .before .before .args in
+    let judged = c .before .before .judge-view .ensures in
+    (judged, slice-kept (a .n) (a .m) (a .holders .now) (a .holder) (a .results .now) (a .out .now) (turned-away judged (c .before .is-accepted .ensures) (c .if1 .taken)))
+
+passed : (c : tie.Else1) → let a = c .before .before .before .before .args in viewRefusal (a .n) (a .m) (a .holders .now) (a .holder) (length (a .results .now)) (length (a .out .now)) ≡ none
+passed c = let-through (c .before .before .judge-view .ensures) (c .before .is-accepted .ensures) (c .if1 .left)
+
+write-view-requires : tie.Need-write-view-requires
+write-view-requires c κs = same-length _ _ _ _ _ _ (passed (c .before))
+
+returns-2 : tie.Need-returns-2
+returns-2 c =
+    let t = c .before .before .before in
+    let a = t .before .before .before .before .args in (
+      t .before .before .judge-view .ensures,
+      c .before .write-view .ensures ∙ slice-written (a .n) (a .m) (a .holders .now) (a .holder) (a .results .now) (a .out .now) (passed t),
+    )
+
+pub view-spec : {M : Type 1} → statement M
+view-spec =
+    tie.close
+    (tie.spec
+    (λ c κs. search needs)
+    (λ c κs. search needs)
+    returns
+    write-view-requires
+    (λ c. search needs)
+    returns-2)

@@ -1,0 +1,79 @@
+-- `write_view` meets its contract. The invariant: i numbers of the view stand in `out`, the rest of which is as lent. The measure is what is left of it.
+use Prim.Native.Nat.{_-_, _<_, _≤_}
+use mathlib.Core.Path.{_≡_, refl, sym, _∙_}
+use mathlib.Core.List.{List}
+use native.Mathlib.Omega.{arith}
+use native.Mathlib.Nat.{zero-add}
+use lib.IntN.{ℤ, pos}
+use lib.ListN.{length, length-set}
+use lib.Seq.{paste, paste-zero}
+use mir.Syntax.{w32}
+use borrow.Author.Needs.{needs, scaled-fits}
+use Rattle.definitions.specs.Views.{viewOf}
+use Rattle.laws.specs.SignedTests.{back}
+use Rattle.laws.specs.Write.{one-more, all-written, written-over}
+use Rattle.views.specs.Places.{view-length}
+use Rattle.views.proofs.write_view.Statement.{statement}
+use Rattle.views.proofs.write_view.Tie as tie
+
+abbrev Inv-loop : tie.InvT-loop
+Inv-loop holders holder results out₀ i₀ out i = (i ≤ length out₀) × (length out ≡ length out₀) × (out ≡ paste out₀ 0 (viewOf holder holders results) i)
+
+abbrev μ-loop : tie.MeasureT-loop
+μ-loop holders holder results out₀ i₀ out i = length out₀ - i
+
+-- what is to be written
+abbrev source : tie.Start Inv-loop μ-loop → List ℤ
+source s = viewOf (s .args .holder) (s .args .holders .now) (s .args .results .now)
+
+source-length : (s : tie.Start Inv-loop μ-loop) → length (source s) ≡ length (s .args .out .now)
+source-length s = view-length (s .args .holder) (s .args .holders .now) (s .args .results .now) ∙ sym (s .pre)
+
+loop-holds : tie.Need-loop-holds Inv-loop μ-loop
+loop-holds c = (omega arith, refl, paste-zero (c .before .args .out .now) 0 (source (c .before)))
+
+shown-at-requires : tie.Need-shown-at-requires Inv-loop μ-loop
+shown-at-requires c κs = let s = c .before .before .before in omega (arith, s .pre)
+
+mul-number : tie.Need-mul-number Inv-loop μ-loop
+mul-number c =
+    let s = c .before .before .before .before in
+    let h : c .before .before .loop .i < length (s .args .out .now) = omega arith in
+    scaled-fits _ _ 4 h (s .good .1 .1 .1 .0 .1)
+
+loop-again : tie.Need-loop-again Inv-loop μ-loop
+loop-again c =
+    let s = c .before .before .before .before in
+    let a = s .args in
+    let l = c .before .before .loop in
+    let h : l .i < length (a .out .now) = omega arith in (
+      omega arith,
+      length-set (l .out) (l .i) _ ∙ l .inv .1,
+      rw (zero-add (l .i)) at (one-more (pos 0) (a .out .now) (l .out) 0 (source s) (l .i) _ (l .inv .2)
+          (back w32 (c .shown-at .result) (c .shown-at .ok) ∙ c .shown-at .ensures)
+          (omega arith)
+          (rw (source-length s) h)),
+    )
+
+returns : tie.Need-returns Inv-loop μ-loop
+returns c =
+    let s = c .before .before .before in
+    let l = c .before .loop in
+    all-written (s .args .out .now) (l .out) 0 (source s) (l .i) (l .inv .2) (rw (source-length s) (omega arith))
+    ∙ written-over (s .args .out .now) (source s) (omega (arith, source-length s))
+
+pub write-view-spec : {M : Type 1} → statement M
+write-view-spec =
+    tie.close
+    (tie.spec
+    Inv-loop
+    μ-loop
+    loop-holds
+    shown-at-requires
+    mul-number
+    (λ c. omega arith)
+    (λ c. omega arith)
+    (λ c. omega arith)
+    loop-again
+    (λ c. omega arith)
+    returns)
