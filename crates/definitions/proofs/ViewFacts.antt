@@ -10,7 +10,7 @@ use Rattle.definitions.proofs.Cases.{below-one, below-two}
 use Rattle.definitions.specs.Limits.{poolResults}
 use Rattle.definitions.specs.Answers.{none, refuse}
 use Rattle.definitions.specs.Calls.{resultAt}
-use Rattle.definitions.specs.Views.{among, viewOf, viewRefusal, viewSlice, Agree, Distinct, OneEach, sumOver}
+use Rattle.definitions.specs.Views.{isAmong, viewOf, viewRefusal, viewSlice, Agree, Distinct, OneEach, sumOver}
 
 -- three bids, of which the first and the last are holder 7's; flow, price and presence stay, and what they are plays no part
 results : List ℤ
@@ -40,13 +40,13 @@ refusals :
     ∷ viewRefusal 1 0 [] 6 0 1
     ∷ []
     ≡ none ∷ none ∷ refuse 16 0 ∷ refuse 16 0 ∷ refuse 3 0 ∷ refuse 3 0 ∷ refuse 3 0 ∷ refuse 3 0 ∷ refuse 3 0 ∷ refuse 3 0 ∷ refuse 1 0 ∷ refuse 2 0 ∷ []
-unfolding viewRefusal among
+unfolding viewRefusal isAmong
 refusals = refl
 
 -- the slice takes the view, whatever it held, or is kept
 slices : viewSlice 3 1 (7 ∷ 9 ∷ 7 ∷ []) 9 results (replicate 6 (pos 8)) ∷ viewSlice 3 1 (7 ∷ 9 ∷ 7 ∷ []) 8 results (replicate 6 (pos 8)) ∷ []
     ≡ (pos 0 ∷ negℤ (pos 2) ∷ pos 0 ∷ pos 4 ∷ negℤ (pos 5) ∷ pos 1 ∷ []) ∷ replicate 6 (pos 8) ∷ []
-unfolding viewSlice viewRefusal among viewOf results
+unfolding viewSlice viewRefusal isAmong viewOf results
 slices = refl
 
 -- ---- agreement: one bid, holder 7's, and one pool; the results are an amount, a flow, a price and a presence
@@ -61,8 +61,8 @@ same-at k = resultAt (numbers 1 2 3 1) k ≡ resultAt (numbers 5 2 3 1) k
 others-agree : Agree 1 1 (7 ∷ []) 9 (numbers 1 2 3 1) (numbers 5 2 3 1)
 others-agree = record {
   amounts = below-one (λ i. getD (7 ∷ []) i 0 ≡ 9 → same-at i) (λ e. absurd (omega arith));
-  flows = λ a b l r. below-one (λ a. same-at (1 + (a * 1 + b))) (below-one (λ b. same-at (1 + (0 * 1 + b))) refl b r) a l;
-  prices = λ p k l r. below-one (λ p. same-at (2 + (poolResults * p + k))) (below-two (λ k. same-at (2 + (poolResults * 0 + k))) refl refl k r) p l;
+  flows = λ a b l r. below-one (λ a. same-at (1 + (a * 1 + b))) (below-one (λ b. same-at (1 + (0 * 1 + b))) refl b (omega arith)) a (omega arith);
+  prices = λ p k l r. below-one (λ p. same-at (2 + (poolResults * p + k))) (below-two (λ k. same-at (2 + (poolResults * 0 + k))) refl refl k (omega arith)) p (omega arith);
 }
 
 -- each number that is shown does
@@ -86,7 +86,7 @@ shown-numbers = (
 
 -- no holder twice, none left out, none that is not in the table
 not-one-each : (OneEach (7 ∷ 9 ∷ 7 ∷ []) (7 ∷ 9 ∷ 7 ∷ []) → ⊥) × (OneEach (7 ∷ 9 ∷ 7 ∷ []) (7 ∷ []) → ⊥) × (OneEach (7 ∷ 9 ∷ 7 ∷ []) (7 ∷ 8 ∷ 9 ∷ []) → ⊥)
-unfolding among Distinct
+unfolding isAmong Distinct
 not-one-each = (λ e. true≢false (e .distinct .0), λ e. true≢false (sym (e .the-same 9)), λ e. true≢false (e .the-same 8))
 
 summed : sumOver (3 ∷ 5 ∷ 4 ∷ []) pos ≡ pos 12

@@ -15,7 +15,7 @@ use Rattle.definitions.specs.Machine.{cell, runOf}
 use Rattle.definitions.specs.Bytes.{parse}
 use Rattle.definitions.specs.Answers.{Refusal, none, refuse, numbered, first, unless}
 
--- the first refusal among f i, f (i + 1), .., of which there are k
+-- the first refusal isAmong f i, f (i + 1), .., of which there are k
 unfoldable pub firstFrom : (i k : ℕ) → (ℕ → Refusal) → Refusal
 firstFrom i zero f = none
 firstFrom i (suc k) f = first (f i) (firstFrom (suc i) k f)

@@ -11,10 +11,10 @@ use Rattle.definitions.specs.Limits.{poolResults}
 use Rattle.definitions.specs.Answers.{Refusal, none, refuse, first, unless}
 use Rattle.definitions.specs.Calls.{lengthRefusal, resultsRefusal, resultAt}
 
--- a holder is among those of a list; among those of the table: it has a bid there
-unfoldable pub among : (holder : ℕ) (holders : List ℕ) → Bool
-among holder [] = false
-among holder (h ∷ holders) = eqb h holder || among holder holders
+-- a holder is among those of a list; among those of the table it is where it has a bid
+unfoldable pub isAmong : (holder : ℕ) (holders : List ℕ) → Bool
+isAmong holder [] = false
+isAmong holder (h ∷ holders) = eqb h holder || isAmong holder holders
 
 -- "A view for one holder .. shows the accepted amounts of that holder's bids, all flows and all pool prices with their presence, and 0 for
 -- every other bid": the table goes along the amounts, with which the results begin; flows and prices, behind them, stay
@@ -27,7 +27,7 @@ viewOf holder (h ∷ holders) (amount ∷ results) = cond (eqb h holder) amount 
 
 -- 16, "the holder has no bid in the table, place 0"
 abbrev pub holderRefusal : (holder : ℕ) (holders : List ℕ) → Refusal
-holderRefusal holder holders = cond (among holder holders) none (refuse 16 0)
+holderRefusal holder holders = cond (isAmong holder holders) none (refuse 16 0)
 
 -- of n, m, the table, the holder, and the lengths of the results and of the slice for the view: "after 1, 2 and 3: 16"
 unfoldable pub viewRefusal : (n m : ℕ) (holders : List ℕ) (holder results view : ℕ) → Refusal
@@ -53,11 +53,11 @@ pub record Agree (n m : ℕ) (holders : List ℕ) (holder : ℕ) (r s : List ℤ
 -- no holder stands twice in a list
 unfoldable pub Distinct : List ℕ → Type 0
 Distinct [] = Unit {0}
-Distinct (h ∷ holders) = (among h holders ≡ false) × Distinct holders
+Distinct (h ∷ holders) = (isAmong h holders ≡ false) × Distinct holders
 
 -- a list of "the table's holders, one each"
 pub record OneEach (table holders : List ℕ) : Type 0 where
-  pub the-same : (holder : ℕ) → among holder holders ≡ among holder table
+  pub the-same : (holder : ℕ) → isAmong holder holders ≡ isAmong holder table
   pub distinct : Distinct holders
 
 -- f of each, added up

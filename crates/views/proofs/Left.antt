@@ -7,7 +7,7 @@ use lib.Dec.{eqb}
 use lib.IntN.{ℤ}
 use lib.ListN.{length}
 use borrow.Author.Tests.{eqb-true}
-use Rattle.definitions.specs.Answers.{Refusal, none, first, unless, isNone}
+use Rattle.definitions.specs.Answers.{Refusal, none, unless, isNone}
 use Rattle.definitions.specs.Calls.{resultsRefusal, lengthRefusal}
 use Rattle.definitions.specs.Views.{holderRefusal, viewRefusal, viewOf, viewSlice}
 use Rattle.laws.specs.Tests.{and-right}

@@ -9,19 +9,19 @@ use lib.Dec.{eqb}
 use lib.ListN.{length, getD, drop, drop-of-length-le}
 use lib.Seq.{drop-cons}
 use borrow.Author.Tests.{eq-eqb, ne-eqb}
-use Rattle.definitions.specs.Views.{among}
+use Rattle.definitions.specs.Views.{isAmong}
 
 module _ (holder : ℕ) (holders : List ℕ) (i : ℕ) where
-  one-left : i < length holders → among holder (drop i holders) ≡ (eqb (getD holders i 0) holder || among holder (drop (i + 1) holders))
-  unfolding among
+  one-left : i < length holders → isAmong holder (drop i holders) ≡ (eqb (getD holders i 0) holder || isAmong holder (drop (i + 1) holders))
+  unfolding isAmong
   one-left h = rw (drop-cons holders i 0 h, add-one i) refl
 
-  pub found : i < length holders → getD holders i 0 ≡ holder → among holder (drop i holders) ≡ true
-  found h e = one-left h ∙ ap (λ (t : Bool). t || among holder (drop (i + 1) holders)) (eq-eqb _ _ e)
+  pub found : i < length holders → getD holders i 0 ≡ holder → isAmong holder (drop i holders) ≡ true
+  found h e = one-left h ∙ ap (λ (t : Bool). t || isAmong holder (drop (i + 1) holders)) (eq-eqb _ _ e)
 
-  pub passed-over : i < length holders → getD holders i 0 ≢ holder → among holder (drop i holders) ≡ among holder (drop (i + 1) holders)
-  passed-over h e = one-left h ∙ ap (λ (t : Bool). t || among holder (drop (i + 1) holders)) (ne-eqb _ _ e)
+  pub passed-over : i < length holders → getD holders i 0 ≢ holder → isAmong holder (drop i holders) ≡ isAmong holder (drop (i + 1) holders)
+  passed-over h e = one-left h ∙ ap (λ (t : Bool). t || isAmong holder (drop (i + 1) holders)) (ne-eqb _ _ e)
 
-  pub not-found : length holders ≤ i → among holder (drop i holders) ≡ false
-  unfolding among
-  not-found h = ap (among holder) (drop-of-length-le holders {i = i} h)
+  pub not-found : length holders ≤ i → isAmong holder (drop i holders) ≡ false
+  unfolding isAmong
+  not-found h = ap (isAmong holder) (drop-of-length-le holders {i = i} h)

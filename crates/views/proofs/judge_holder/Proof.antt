@@ -6,13 +6,13 @@ use native.Mathlib.Omega.{arith}
 use lib.ListN.{length, drop}
 use borrow.Author.Needs.{scaled-fits}
 use Rattle.definitions.specs.Answers.{none, refuse}
-use Rattle.definitions.specs.Views.{among}
+use Rattle.definitions.specs.Views.{isAmong}
 use Rattle.views.proofs.Search.{found, passed-over, not-found}
 use Rattle.views.proofs.judge_holder.Statement.{statement}
 use Rattle.views.proofs.judge_holder.Tie as tie
 
 abbrev Inv-loop : tie.InvT-loop
-Inv-loop holders holder i₀ i = (i ≤ length holders) × (among holder holders ≡ among holder (drop i holders))
+Inv-loop holders holder i₀ i = (i ≤ length holders) × (isAmong holder holders ≡ isAmong holder (drop i holders))
 
 abbrev μ-loop : tie.MeasureT-loop
 μ-loop holders holder i₀ i = length holders - i

@@ -2,20 +2,23 @@
 use mathlib.Core.Path.{_≡_, _∙_}
 use lib.ListN.{length}
 use borrow.Author.Needs.{needs}
-use Rattle.definitions.specs.Answers.{none}
+use Rattle.definitions.specs.Answers.{Refusal, none}
 use Rattle.definitions.specs.Views.{viewRefusal}
 use Rattle.laws.specs.Search.{turned-away, let-through}
 use Rattle.views.proofs.Left.{same-length, slice-written, slice-kept}
 use Rattle.views.proofs.view.Statement.{statement}
 use Rattle.views.proofs.view.Tie as tie
 
+abbrev asked : tie.Start → Refusal
+asked s = viewRefusal (s .args .n) (s .args .m) (s .args .holders .now) (s .args .holder) (length (s .args .results .now)) (length (s .args .out .now))
+
 returns : tie.Need-returns
 returns c =
     let a = c .before .before .before .before .args in
     let judged = c .before .before .judge-view .ensures in
-    (judged, slice-kept (a .n) (a .m) (a .holders .now) (a .holder) (a .results .now) (a .out .now) (turned-away judged (c .before .is-accepted .ensures) (c .if1 .taken)))
+    (judged, slice-kept (a .n) (a .m) (a .holders .now) (a .holder) (a .results .now) (a .out .now) (turned-away {asked = asked (c .before .before .before .before)} judged (c .before .is-accepted .ensures) (c .if1 .taken)))
 
-passed : (c : tie.Else1) → let a = c .before .before .before .before .args in viewRefusal (a .n) (a .m) (a .holders .now) (a .holder) (length (a .results .now)) (length (a .out .now)) ≡ none
+passed : (c : tie.Else1) → asked (c .before .before .before .before) ≡ none
 passed c = let-through (c .before .before .judge-view .ensures) (c .before .is-accepted .ensures) (c .if1 .left)
 
 write-view-requires : tie.Need-write-view-requires

@@ -8,7 +8,7 @@ use lib.IntN.{ℤ, pos}
 use lib.ListN.{length, length-set}
 use lib.Seq.{paste, paste-zero}
 use mir.Syntax.{w32}
-use borrow.Author.Needs.{needs, scaled-fits}
+use borrow.Author.Needs.{scaled-fits}
 use Rattle.definitions.specs.Views.{viewOf}
 use Rattle.laws.specs.SignedTests.{back}
 use Rattle.laws.specs.Write.{one-more, all-written, written-over}
