@@ -1,4 +1,4 @@
--- A holder's view of opened results, and the words of what is shown of views (document 02, request 1, "Each farm reads its own page").
+-- A holder's view of opened results (document 02, request 1, "Each farm reads its own page"): the call, and the terms of its two theorems.
 -- "A table of n holder numbers, unsigned 32-bit, goes with a book": its entry i is the holder of bid i + 1.
 use Prim.Native.Nat.{ℕ, _+_, _*_, _<_}
 use mathlib.Core.Path.{_≡_}
@@ -41,7 +41,7 @@ unfoldable pub viewSlice : (n m : ℕ) (holders : List ℕ) (holder : ℕ) (resu
 viewSlice n m holders holder results out =
     unless (viewRefusal n m holders holder (length results) (length out)) (viewOf holder holders results) out
 
--- ---- What is shown of views
+-- ---- The terms of the theorems
 
 -- two results "agree on those shown numbers"
 pub record Agree (n m : ℕ) (holders : List ℕ) (holder : ℕ) (r s : List ℤ) : Type 0 where

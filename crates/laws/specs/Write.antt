@@ -1,12 +1,12 @@
 -- A loop that writes a list into another, element by element (`paste` of lib.Seq says what it has written after n turns), and stores behind stores.
 use Prim.Native.Nat.{ℕ, suc, _+_, _<_, _≤_}
-use mathlib.Core.Path.{_≡_, sym, ap, _∙_}
+use mathlib.Core.Path.{_≡_, refl, sym, ap, _∙_}
 use mathlib.Core.List.{List, [], _∷_, _++_, append-nil}
 use native.Mathlib.Omega.{arith}
-use native.Mathlib.Nat.{add-zero, suc-add, add-suc}
+use native.Mathlib.Nat.{zero-add, add-zero, suc-add, add-suc}
 use native.Mathlib.Numerals.{add-one}
-use lib.ListN.{length, getD, take, drop, set, drop-of-length-le}
-use lib.Seq.{sets, paste, paste-suc, take-length, take-at, drop-append-add}
+use lib.ListN.{length, getD, take, drop, set, length-set, drop-of-length-le}
+use lib.Seq.{sets, paste, paste-zero, paste-suc, take-length, take-at, drop-append-add}
 
 module _ {A : Type 0} where
   -- d with its elements from index at on replaced by those of s
@@ -21,9 +21,34 @@ module _ {A : Type 0} where
   pub all-written : (d₀ d : List A) (at : ℕ) (s : List A) (i : ℕ) → d ≡ paste d₀ at s i → i ≡ length s → d ≡ written d₀ at s
   all-written d₀ d at s i e q = e ∙ ap (paste d₀ at s) q ∙ ap (λ (l : List A). take at d₀ ++ l ++ drop (at + length s) d₀) (take-length s)
 
-  -- a write over all of a list that is no longer
-  pub written-over : (d s : List A) → length d ≤ length s → written d 0 s ≡ s
-  written-over d s h = ap (λ (l : List A). s ++ l) (drop-of-length-le d {i = 0 + length s} (omega arith)) ∙ append-nil s
+  -- ---- a loop that writes a list over all of another of its length
+
+  -- after i turns: i elements of s stand in d, which else is as it was, d₀
+  pub record Over (d₀ s d : List A) (i : ℕ) : Type 0 where
+    pub within : i ≤ length d₀
+    pub as-long : length d ≡ length d₀
+    pub so-far : d ≡ paste d₀ 0 s i
+
+  pub over-begins : (d₀ s : List A) → Over d₀ s d₀ 0
+  over-begins d₀ s = record { within = omega arith; as-long = refl; so-far = paste-zero d₀ 0 s }
+
+  module _ {d₀ s d : List A} {i : ℕ} (same-length : length s ≡ length d₀) (over : Over d₀ s d i) where
+    pub over-turn : (z v : A) → i < length d → v ≡ getD s i z → Over d₀ s (set d i v) (i + 1)
+    over-turn z v h e =
+        let inside : i < length d₀ = omega (arith, over .as-long) in
+        record {
+          within = omega arith;
+          as-long = length-set d i v ∙ over .as-long;
+          so-far = rw (zero-add i) at (one-more z d₀ d 0 s i v (over .so-far) e (omega arith) (omega arith));
+        }
+
+    pub over-ends : length d ≤ i → d ≡ s
+    over-ends h =
+        all-written d₀ d 0 s i (over .so-far) (omega (arith, over .within, over .as-long))
+        ∙ ap (λ (l : List A). s ++ l) (drop-of-length-le d₀ {i = 0 + length s} (omega arith))
+        ∙ append-nil s
+
+  -- ---- parts
 
   -- a write just behind a first part
   pub behind : (p r : List A) (at : ℕ) (s : List A) → length p ≡ at → written (p ++ r) at s ≡ p ++ s ++ drop (length s) r

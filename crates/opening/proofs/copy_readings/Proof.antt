@@ -1,23 +1,21 @@
--- `copy_readings` meets its contract. The loop's invariant: i readings stand in `out`, the rest of which is as lent. The measure is what is left of it.
-use Prim.Native.Nat.{_+_, _-_, _<_, _≤_}
-use mathlib.Core.Path.{_≡_, refl, sym, _∙_}
+-- `copy_readings` meets its contract. The loop's invariant: i readings stand in `out`. The measure is what is left of it.
+use Prim.Native.Nat.{_+_, _-_, _<_}
+use mathlib.Core.Path.{_≡_, sym, _∙_}
 use mathlib.Core.List.{List}
 use native.Mathlib.Omega.{arith}
-use native.Mathlib.Nat.{zero-add}
 use lib.IntN.{ℤ, pos}
-use lib.ListN.{length, length-set}
-use lib.Seq.{paste, paste-zero}
+use lib.ListN.{length}
 use mir.Syntax.{w32}
 use borrow.Author.Needs.{needs, scaled-fits}
 use Rattle.laws.specs.SignedTests.{back}
-use Rattle.laws.specs.Write.{one-more, all-written, written-over}
+use Rattle.laws.specs.Write.{Over, over-begins, over-turn, over-ends}
 use Rattle.residues.specs.Residues.{read-residue}
 use Rattle.opening.proofs.Readings.{readings, readings-length, reading-at}
 use Rattle.opening.proofs.copy_readings.Statement.{statement}
 use Rattle.opening.proofs.copy_readings.Tie as tie
 
 abbrev Inv-loop : tie.InvT-loop
-Inv-loop sheet from out₀ i₀ out i = (i ≤ length out₀) × (length out ≡ length out₀) × (out ≡ paste out₀ 0 (readings sheet from (length out₀)) i)
+Inv-loop sheet from out₀ i₀ out i = Over out₀ (readings sheet from (length out₀)) out i
 
 abbrev μ-loop : tie.MeasureT-loop
 μ-loop sheet from out₀ i₀ out i = length out₀ - i
@@ -30,7 +28,7 @@ source-length : (s : tie.Start Inv-loop μ-loop) → length (source s) ≡ lengt
 source-length s = readings-length (s .args .sheet .now) (s .args .from) (length (s .args .out .now)) (s .pre .0)
 
 loop-holds : tie.Need-loop-holds Inv-loop μ-loop
-loop-holds c = (omega arith, refl, paste-zero (c .before .args .out .now) 0 (source (c .before)))
+loop-holds c = over-begins (c .before .args .out .now) (source (c .before))
 
 mul-x : tie.Need-mul-x Inv-loop μ-loop
 mul-x c =
@@ -47,23 +45,15 @@ mul-r c =
 loop-again : tie.Need-loop-again Inv-loop μ-loop
 loop-again c =
     let s = c .before .before .before .before .before in
-    let a = s .args in
     let l = c .before .before .before .loop in
-    let h : l .i < length (a .out .now) = omega arith in (
-      omega arith,
-      length-set (l .out) (l .i) _ ∙ l .inv .1,
-      rw (zero-add (l .i)) at (one-more (pos 0) (a .out .now) (l .out) 0 (source s) (l .i) _ (l .inv .2)
-          (back w32 (c .reading .result) (c .reading .ok) ∙ c .reading .ensures ∙ read-residue _ (s .pre .1 _) ∙ sym (reading-at (a .sheet .now) (a .from) (length (a .out .now)) (l .i) h))
-          (omega arith)
-          (rw (source-length s) h)),
-    )
+    over-turn (source-length s) (l .inv) (pos 0) _ (c .before .before .loop-test .taken)
+    (back w32 (c .reading .result) (c .reading .ok)
+    ∙ c .reading .ensures
+    ∙ read-residue _ (s .pre .1 _)
+    ∙ sym (reading-at (s .args .sheet .now) (s .args .from) (length (s .args .out .now)) (l .i) (omega arith)))
 
 returns : tie.Need-returns Inv-loop μ-loop
-returns c =
-    let s = c .before .before .before in
-    let l = c .before .loop in
-    all-written (s .args .out .now) (l .out) 0 (source s) (l .i) (l .inv .2) (rw (source-length s) (omega arith))
-    ∙ written-over (s .args .out .now) (source s) (omega (arith, source-length s))
+returns c = over-ends (source-length (c .before .before .before)) (c .before .loop .inv) (c .loop-test .left)
 
 pub copy-readings-spec : {M : Type 1} → statement M
 copy-readings-spec =

@@ -1,23 +1,21 @@
--- `write_view` meets its contract. The invariant: i numbers of the view stand in `out`, the rest of which is as lent. The measure is what is left of it.
-use Prim.Native.Nat.{_-_, _<_, _≤_}
-use mathlib.Core.Path.{_≡_, refl, sym, _∙_}
+-- `write_view` meets its contract. The invariant: i numbers of the view stand in `out`. The measure is what is left of it.
+use Prim.Native.Nat.{_-_, _<_}
+use mathlib.Core.Path.{_≡_, sym, _∙_}
 use mathlib.Core.List.{List}
 use native.Mathlib.Omega.{arith}
-use native.Mathlib.Nat.{zero-add}
 use lib.IntN.{ℤ, pos}
-use lib.ListN.{length, length-set}
-use lib.Seq.{paste, paste-zero}
+use lib.ListN.{length}
 use mir.Syntax.{w32}
 use borrow.Author.Needs.{scaled-fits}
 use Rattle.definitions.specs.Views.{viewOf}
 use Rattle.laws.specs.SignedTests.{back}
-use Rattle.laws.specs.Write.{one-more, all-written, written-over}
+use Rattle.laws.specs.Write.{Over, over-begins, over-turn, over-ends}
 use Rattle.views.specs.Places.{view-length}
 use Rattle.views.proofs.write_view.Statement.{statement}
 use Rattle.views.proofs.write_view.Tie as tie
 
 abbrev Inv-loop : tie.InvT-loop
-Inv-loop holders holder results out₀ i₀ out i = (i ≤ length out₀) × (length out ≡ length out₀) × (out ≡ paste out₀ 0 (viewOf holder holders results) i)
+Inv-loop holders holder results out₀ i₀ out i = Over out₀ (viewOf holder holders results) out i
 
 abbrev μ-loop : tie.MeasureT-loop
 μ-loop holders holder results out₀ i₀ out i = length out₀ - i
@@ -30,7 +28,7 @@ source-length : (s : tie.Start Inv-loop μ-loop) → length (source s) ≡ lengt
 source-length s = view-length (s .args .holder) (s .args .holders .now) (s .args .results .now) ∙ sym (s .pre)
 
 loop-holds : tie.Need-loop-holds Inv-loop μ-loop
-loop-holds c = (omega arith, refl, paste-zero (c .before .args .out .now) 0 (source (c .before)))
+loop-holds c = over-begins (c .before .args .out .now) (source (c .before))
 
 shown-at-requires : tie.Need-shown-at-requires Inv-loop μ-loop
 shown-at-requires c κs = let s = c .before .before .before in omega (arith, s .pre)
@@ -43,24 +41,11 @@ mul-number c =
 
 loop-again : tie.Need-loop-again Inv-loop μ-loop
 loop-again c =
-    let s = c .before .before .before .before in
-    let a = s .args in
-    let l = c .before .before .loop in
-    let h : l .i < length (a .out .now) = omega arith in (
-      omega arith,
-      length-set (l .out) (l .i) _ ∙ l .inv .1,
-      rw (zero-add (l .i)) at (one-more (pos 0) (a .out .now) (l .out) 0 (source s) (l .i) _ (l .inv .2)
-          (back w32 (c .shown-at .result) (c .shown-at .ok) ∙ c .shown-at .ensures)
-          (omega arith)
-          (rw (source-length s) h)),
-    )
+    over-turn (source-length (c .before .before .before .before)) (c .before .before .loop .inv) (pos 0) _ (c .before .loop-test .taken)
+    (back w32 (c .shown-at .result) (c .shown-at .ok) ∙ c .shown-at .ensures)
 
 returns : tie.Need-returns Inv-loop μ-loop
-returns c =
-    let s = c .before .before .before in
-    let l = c .before .loop in
-    all-written (s .args .out .now) (l .out) 0 (source s) (l .i) (l .inv .2) (rw (source-length s) (omega arith))
-    ∙ written-over (s .args .out .now) (source s) (omega (arith, source-length s))
+returns c = over-ends (source-length (c .before .before .before)) (c .before .loop .inv) (c .loop-test .left)
 
 pub write-view-spec : {M : Type 1} → statement M
 write-view-spec =
