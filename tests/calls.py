@@ -207,6 +207,7 @@ def unreadable(draw, data):
 EDGES = [b"", b"\0", b"\1\0\0", *(packed([number]) for number in range(0, 20)), packed([WORDS - 1]), call(3, [0, 1], [], []), call(5, [], [], []),
          call(8, [0, 1, 0], [255] * (answers.ROOM - 5)), call(8, [0, 1, 0], [255] * (answers.ROOM - 4)), call(8, [0, 1, 0], [256] * 9),
          call(2, [0, 1], [], [0], [9] * (answers.ROOM - 7)), call(2, [0, 1], [], [0], [9] * (answers.ROOM - 6)), call(3, [0, 1], [0] * 4_096, [0] * 4_091),
+         call(9, [0, 1, 0], [], [], [9] * (answers.ROOM - 7)), call(9, [0, 1, 0], [], [], [9] * (answers.ROOM - 6)),
          call(8, [0, 1, 0], [7] * 9)[:-1], packed([8, 0, 1, 0, WORDS - 1, 7]), packed([2, 0, 1, 2**31, 0, 0]), bytes(4 * answers.ROOM), bytes(4 * answers.ROOM + 1)]
 
 

@@ -1,5 +1,5 @@
 #!/usr/bin/env python3
-"""What a reader must believe beside document 01's definitions.
+"""What a reader must believe beside the crate of definitions.
 
 Every definition outside crates/definitions/specs that a contract cites (of a function that another crate or the C host can reach, or of a
 program) or that a theorem states which docs/DEMANDS.md or docs/SPECIFICATION.md names, with what these definitions cite in turn, has to stand
@@ -211,7 +211,7 @@ def main():
             print(f'{crate}/specs/{module}: {name} {word}')
     if unknown or needed != there:
         sys.exit('docs/SPECIFICATION.md does not list what stands beside the definitions')
-    print(f"the specification: {len(needed)} definitions beside document 01's, all listed")
+    print(f"the specification: {len(needed)} definitions beside those of the documents, all listed")
 
 
 main()

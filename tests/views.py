@@ -1,8 +1,8 @@
-"""Holds views to what the request says of them, on the way that a host goes: python3 tests/views.py CALLS [BOOKS] [SEED]
+"""Holds views to what request 1 of document 02 says of them, on the way that a host goes: python3 tests/views.py CALLS [BOOKS] [SEED]
 
 CALLS is the program that makes one call. Each drawn book is cleared, its sheet opened, and the view made for each of its table's holders. The
-views add up to the opened amounts, each shows all flows and prices, and of two openings a holder has the same view exactly if they agree on what
-is shown to it."""
+views add up to the opened amounts, and each shows all flows and prices. From the opened results and a copy of them changed in up to two places a
+holder has the same view exactly if the two agree on what it is shown."""
 import subprocess
 
 import arguments
@@ -42,7 +42,7 @@ def main():
             views, same = views + 1, same + agree
         assert sums == results[:n], (n, m, bids, capacities, table)
     assert 0 < same < views
-    print(f"{count} cleared books and {views} views, {same} of them the same for two openings: the views add up, and show what they have to")
+    print(f"{count} cleared books and {views} views, {same} of them the same for changed results: the views add up, and show what they have to")
 
 
 if __name__ == "__main__":

@@ -55,7 +55,7 @@ pub fn parts_of(order: Order) -> Parts
     }
 }
 
-// What document 01 says of a verdict: its number and its place, 0 where there is none.
+// What the documents say of a verdict: its number and its place, 0 where there is none.
 struct Refusal(u32, usize);
 
 fn said(v: Verdict) -> Refusal
@@ -82,7 +82,7 @@ fn said(v: Verdict) -> Refusal
     }
 }
 
-// The document's number of a verdict, 0 if accepted.
+// The documents' number of a verdict, 0 if accepted.
 pub fn number(v: Verdict) -> u32
     ensures { λ r. ⌜ r ≡ numberOf (refusalOf v) ⌝ }
 {

@@ -266,21 +266,21 @@ pub fn call_write(input: &[u8]) -> bool {
     true
 }
 
-// ---- A holder's view: n, m and the holder; holders, results, view
+// ---- A holder's view: n, m and the holder; table, results, view
 
-fn copy_view(input: &[u8], holders: &mut [u32], results: &mut [i32], out: &mut [i32]) {
+fn copy_view(input: &[u8], table: &mut [u32], results: &mut [i32], out: &mut [i32]) {
     let second = after_slice(input, 4);
     let third = after_slice(input, second);
-    copy_words(input, 4, holders);
+    copy_words(input, 4, table);
     copy_signed(input, second, results);
     copy_signed(input, third, out);
 }
 
-fn lend_view(input: &[u8], holders: &mut [u32], results: &mut [i32], out: &mut [i32]) {
-    copy_view(input, holders, results, out);
+fn lend_view(input: &[u8], table: &mut [u32], results: &mut [i32], out: &mut [i32]) {
+    copy_view(input, table, results, out);
     let n = number(input, 1);
     let m = number(input, 2);
-    print_verdict(view(n, m, holders, word(input, 3), results, out));
+    print_verdict(view(n, m, table, word(input, 3), results, out));
     print_integers(b"view", out);
 }
 
@@ -290,12 +290,12 @@ pub fn call_view(input: &[u8]) -> bool {
     }
     let second = after_slice(input, 4);
     let third = after_slice(input, second);
-    let mut holders = room_for_words();
+    let mut table = room_for_words();
     let mut results = room_for_signed();
     let mut out = room_for_signed();
-    let h = slice_length(input, 4);
+    let t = slice_length(input, 4);
     let r = slice_length(input, second);
     let v = slice_length(input, third);
-    lend_view(input, &mut holders[..h], &mut results[..r], &mut out[..v]);
+    lend_view(input, &mut table[..t], &mut results[..r], &mut out[..v]);
     true
 }

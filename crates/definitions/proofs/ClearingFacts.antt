@@ -104,7 +104,7 @@ welfares :
 unfolding bookOne bookFive merit welfare sumZ
 welfares = refl
 
--- ---- prices: the highest isAmong sales accepted above 0, of the pool's own bids, or none
+-- ---- prices: the highest among sales accepted above 0, of the pool's own bids, or none
 prices :
     poolPrice bookTwo (λ i. getD (1 ∷ 1 ∷ []) i 0) 0
     ∷ poolPrice bookTwo (λ i. getD (1 ∷ 1 ∷ []) i 0) 1

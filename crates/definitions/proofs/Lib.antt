@@ -1,4 +1,4 @@
--- Computed facts that hold the definitions to document 01.
+-- Computed facts that hold the definitions to the documents.
 pub mod Cases
 pub mod TableFacts
 pub mod ClearingFacts

@@ -1,5 +1,5 @@
 -- Views on small tables, what is refused of them, and what agreement and one of each holder are and are not.
-use Prim.Native.Nat.{ℕ, _+_, _*_}
+use Prim.Native.Nat.{ℕ, _+_}
 use mathlib.Core.Path.{_≡_, refl, sym, ap}
 use mathlib.Core.Bool.{true≢false}
 use mathlib.Core.List.{List, [], _∷_}
@@ -7,16 +7,15 @@ use native.Mathlib.Omega.{arith}
 use lib.ListN.{getD, replicate}
 use lib.IntN.{ℤ, pos, negℤ, natAbs}
 use Rattle.definitions.proofs.Cases.{below-one, below-two}
-use Rattle.definitions.specs.Limits.{poolResults}
 use Rattle.definitions.specs.Answers.{none, refuse}
-use Rattle.definitions.specs.Calls.{resultAt}
+use Rattle.definitions.specs.Calls.{resultAt, flowPlace, poolPlace}
 use Rattle.definitions.specs.Views.{isAmong, viewOf, viewRefusal, viewSlice, Agree, Distinct, OneEach, sumOver}
 
 -- three bids, of which the first and the last are holder 7's; flow, price and presence stay, and what they are plays no part
 results : List ℤ
 results = pos 1 ∷ negℤ (pos 2) ∷ pos 3 ∷ pos 4 ∷ negℤ (pos 5) ∷ pos 1 ∷ []
 
-shown : viewOf 7 (7 ∷ 9 ∷ 7 ∷ []) results ∷ viewOf 9 (7 ∷ 9 ∷ 7 ∷ []) results ∷ viewOf 8 (7 ∷ 9 ∷ 7 ∷ []) results ∷ []
+shown : viewOf (7 ∷ 9 ∷ 7 ∷ []) 7 results ∷ viewOf (7 ∷ 9 ∷ 7 ∷ []) 9 results ∷ viewOf (7 ∷ 9 ∷ 7 ∷ []) 8 results ∷ []
     ≡ (pos 1 ∷ pos 0 ∷ pos 3 ∷ pos 4 ∷ negℤ (pos 5) ∷ pos 1 ∷ [])
     ∷ (pos 0 ∷ negℤ (pos 2) ∷ pos 0 ∷ pos 4 ∷ negℤ (pos 5) ∷ pos 1 ∷ [])
     ∷ (pos 0 ∷ pos 0 ∷ pos 0 ∷ pos 4 ∷ negℤ (pos 5) ∷ pos 1 ∷ [])
@@ -61,8 +60,8 @@ same-at k = resultAt (numbers 1 2 3 1) k ≡ resultAt (numbers 5 2 3 1) k
 others-agree : Agree 1 1 (7 ∷ []) 9 (numbers 1 2 3 1) (numbers 5 2 3 1)
 others-agree = record {
   amounts = below-one (λ i. getD (7 ∷ []) i 0 ≡ 9 → same-at i) (λ e. absurd (omega arith));
-  flows = λ a b l r. below-one (λ a. same-at (1 + (a * 1 + b))) (below-one (λ b. same-at (1 + (0 * 1 + b))) refl b (omega arith)) a (omega arith);
-  prices = λ p k l r. below-one (λ p. same-at (2 + (poolResults * p + k))) (below-two (λ k. same-at (2 + (poolResults * 0 + k))) refl refl k (omega arith)) p (omega arith);
+  flows = λ a b l r. below-one (λ a. same-at (flowPlace 1 1 a b)) (below-one (λ b. same-at (flowPlace 1 1 0 b)) refl b (omega arith)) a (omega arith);
+  prices = λ p k l r. below-one (λ p. same-at (poolPlace 1 1 p + k)) (below-two (λ k. same-at (poolPlace 1 1 0 + k)) refl refl k (omega arith)) p (omega arith);
 }
 
 -- each number that is shown does

@@ -1,4 +1,4 @@
--- What a call says of its input: document 01's number and place for each case of a verdict, and its number for each kind of order.
+-- What a call says of its input: the documents' number and place for each case of a verdict, and document 01's number for each kind of order.
 use Prim.Native.Nat.{ℕ, zero, suc}
 use mathlib.Core.Bool.{Bool, true, false}
 use Rattle.definitions.specs.declared.Order.{Order}

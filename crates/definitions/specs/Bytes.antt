@@ -130,7 +130,7 @@ andThen (found v next) f = f v next
 abbrev pub cellsOrders : (d a b : ℕ) → List Order
 cellsOrders d a b = Sum d a b ∷ Difference d a b ∷ Product d a b ∷ Less d a b ∷ Equal d a b ∷ []
 
--- the order of a kind isAmong some orders, and the offset after it; 10 where none of them is of that kind
+-- the order of a kind among some orders, and the offset after it; 10 where none of them is of that kind
 abbrev pub ofKind : (kind next : ℕ) → List Order → Read Order
 ofKind kind next [] = fault 10
 ofKind kind next (o ∷ os) = cond (eqb (kindOf o) kind) (found o next) (ofKind kind next os)

@@ -7,7 +7,7 @@ use mathlib.Core.List.{List, map}
 use lib.Dec.{ltb, eqb}
 use lib.ListN.{length, getD, take, drop}
 use lib.IntN.{ℤ, pos, negℤ}
-use Rattle.definitions.specs.Limits.{bidLimit, poolLimit, priceLimit, quantityLimit, capacityLimit, cellCount, modulus, bidNumbers}
+use Rattle.definitions.specs.Limits.{bidLimit, poolLimit, priceLimit, quantityLimit, capacityLimit, cellCount, modulus, bidNumbers, poolResults}
 use Rattle.definitions.specs.Arithmetic.{within, eqZ, reading}
 use Rattle.definitions.specs.Book.{Book, pool, price, quantity, capacityEntry}
 use Rattle.definitions.specs.Sheet.{sealedSheet, firstResult, resultCount}
@@ -15,7 +15,7 @@ use Rattle.definitions.specs.Machine.{cell, runOf}
 use Rattle.definitions.specs.Bytes.{parse}
 use Rattle.definitions.specs.Answers.{Refusal, none, refuse, numbered, first, unless}
 
--- the first refusal isAmong f i, f (i + 1), .., of which there are k
+-- the first refusal among f i, f (i + 1), .., of which there are k
 unfoldable pub firstFrom : (i k : ℕ) → (ℕ → Refusal) → Refusal
 firstFrom i zero f = none
 firstFrom i (suc k) f = first (f i) (firstFrom (suc i) k f)
@@ -119,6 +119,13 @@ openedResults n m sheet = map reading (take (resultCount n m) (drop (firstResult
 -- one of the opened results: n amounts, m × m flows, then price and presence of each pool
 abbrev pub resultAt : List ℤ → ℕ → ℤ
 resultAt results i = getD results i (pos 0)
+
+-- the place of a flow among them, and of a pool's first number
+abbrev pub flowPlace : (n m a b : ℕ) → ℕ
+flowPlace n m a b = n + (a * m + b)
+
+abbrev pub poolPlace : (n m p : ℕ) → ℕ
+poolPlace n m p = n + m * m + poolResults * p
 
 -- the slice that opening leaves
 unfoldable pub openSlice : (n m : ℕ) (sheet : List ℕ) (out : List ℤ) → List ℤ

@@ -68,7 +68,7 @@ pub data NoGreater (B : Book) (y x : ℕ → ℕ) : Type 0 where
   equal : ((i : ℕ) → i < B .n → y i ≡ x i) → NoGreater B y x
   less : (i : ℕ) → i < B .n → y i < x i → ((j : ℕ) → j < B .n → before B j i ≡ true → y j ≡ x j) → NoGreater B y x
 
--- "The best clearing's used amounts, listed in merit order, are the greatest in dictionary order isAmong all feasible clearings."
+-- "The best clearing's used amounts, listed in merit order, are the greatest in dictionary order among all feasible clearings."
 pub record Best (B : Book) (c : Clearing) : Type 0 where
   pub feasible : Feasible B c  -- it is one of them
   pub greatest : (d : Clearing) → Feasible B d → NoGreater B (used B (d .accepted)) (used B (c .accepted))
@@ -92,12 +92,12 @@ abbrev pub higher : PoolPrice → ℤ → PoolPrice
 higher missing z = present z
 higher (present y) z = present (cond (ltZ y z) z y)
 
--- the highest limit price isAmong the first k bids that sell in the pool
+-- the highest limit price among the first k bids that sell in the pool
 unfoldable pub highest : Book → (ℕ → ℕ) → (p k : ℕ) → PoolPrice
 highest B accepted p zero = missing
 highest B accepted p (suc k) = cond (sells B accepted p k) (higher (highest B accepted p k) (price B k)) (highest B accepted p k)
 
--- "Pool price: the highest limit price isAmong the pool's sales accepted above 0"
+-- "Pool price: the highest limit price among the pool's sales accepted above 0"
 unfoldable pub poolPrice : Book → (ℕ → ℕ) → ℕ → PoolPrice
 poolPrice B accepted p = highest B accepted p (B .n)
 

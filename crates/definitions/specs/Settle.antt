@@ -6,11 +6,11 @@ use lib.Dec.{ltb, eqb, leb}
 use lib.ListN.{length, take, drop}
 use lib.IntN.{ℤ, pos, negsuc, negℤ}
 use lib.Signed.{ltZ}
-use Rattle.definitions.specs.Limits.{cellCount, bidNumbers, poolResults}
+use Rattle.definitions.specs.Limits.{cellCount, bidNumbers}
 use Rattle.definitions.specs.Arithmetic.{joinTo, within}
 use Rattle.definitions.specs.Book.{Book, book}
 use Rattle.definitions.specs.Answers.{Refusal, none, refuse, numberOf, placeOf}
-use Rattle.definitions.specs.Calls.{countsRefusal, sealRefusal, openedResults, resultAt}
+use Rattle.definitions.specs.Calls.{countsRefusal, sealRefusal, openedResults, resultAt, flowPlace, poolPlace}
 use Rattle.definitions.specs.Plan.{Plan}
 use Rattle.definitions.specs.Outcome.{planRun, clearWelfare}
 
@@ -206,12 +206,12 @@ bidLines n results = joinTo n (λ i. bidLine (i + 1) (resultAt results i))
 
 -- the lines of all flows above 0, by rows
 unfoldable pub flowLines : (n m : ℕ) → List ℤ → List ℕ
-flowLines n m results = joinTo m (λ a. joinTo m (λ b. flowLine (a + 1) (b + 1) (resultAt results (n + (a * m + b)))))
+flowLines n m results = joinTo m (λ a. joinTo m (λ b. flowLine (a + 1) (b + 1) (resultAt results (flowPlace n m a b))))
 
 -- the lines of all pools
 unfoldable pub priceLines : (n m : ℕ) → List ℤ → List ℕ
 priceLines n m results =
-    joinTo m (λ p. priceLine (p + 1) (resultAt results (n + m * m + poolResults * p)) (resultAt results (n + m * m + poolResults * p + 1)))
+    joinTo m (λ p. priceLine (p + 1) (resultAt results (poolPlace n m p)) (resultAt results (poolPlace n m p + 1)))
 
 -- the text printed for a cleared book, as for example 2
 unfoldable pub listing : (n m : ℕ) (results : List ℤ) (w : ℤ) → List ℕ

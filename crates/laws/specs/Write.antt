@@ -1,4 +1,5 @@
--- A loop that writes a list into another, element by element (`paste` of lib.Seq says what it has written after n turns), and stores behind stores.
+-- A loop that writes a list into another, element by element (`paste` of lib.Seq says what it has written after n turns), stores behind stores,
+-- and a loop that writes a list over all of another.
 use Prim.Native.Nat.{ℕ, suc, _+_, _<_, _≤_}
 use mathlib.Core.Path.{_≡_, refl, sym, ap, _∙_}
 use mathlib.Core.List.{List, [], _∷_, _++_, append-nil}
@@ -21,35 +22,6 @@ module _ {A : Type 0} where
   pub all-written : (d₀ d : List A) (at : ℕ) (s : List A) (i : ℕ) → d ≡ paste d₀ at s i → i ≡ length s → d ≡ written d₀ at s
   all-written d₀ d at s i e q = e ∙ ap (paste d₀ at s) q ∙ ap (λ (l : List A). take at d₀ ++ l ++ drop (at + length s) d₀) (take-length s)
 
-  -- ---- a loop that writes a list over all of another of its length
-
-  -- after i turns: i elements of s stand in d, which else is as it was, d₀
-  pub record Over (d₀ s d : List A) (i : ℕ) : Type 0 where
-    pub within : i ≤ length d₀
-    pub as-long : length d ≡ length d₀
-    pub so-far : d ≡ paste d₀ 0 s i
-
-  pub over-begins : (d₀ s : List A) → Over d₀ s d₀ 0
-  over-begins d₀ s = record { within = omega arith; as-long = refl; so-far = paste-zero d₀ 0 s }
-
-  module _ {d₀ s d : List A} {i : ℕ} (same-length : length s ≡ length d₀) (over : Over d₀ s d i) where
-    pub over-turn : (z v : A) → i < length d → v ≡ getD s i z → Over d₀ s (set d i v) (i + 1)
-    over-turn z v h e =
-        let inside : i < length d₀ = omega (arith, over .as-long) in
-        record {
-          within = omega arith;
-          as-long = length-set d i v ∙ over .as-long;
-          so-far = rw (zero-add i) at (one-more z d₀ d 0 s i v (over .so-far) e (omega arith) (omega arith));
-        }
-
-    pub over-ends : length d ≤ i → d ≡ s
-    over-ends h =
-        all-written d₀ d 0 s i (over .so-far) (omega (arith, over .within, over .as-long))
-        ∙ ap (λ (l : List A). s ++ l) (drop-of-length-le d₀ {i = 0 + length s} (omega arith))
-        ∙ append-nil s
-
-  -- ---- parts
-
   -- a write just behind a first part
   pub behind : (p r : List A) (at : ℕ) (s : List A) → length p ≡ at → written (p ++ r) at s ≡ p ++ s ++ drop (length s) r
   behind p r at s e =
@@ -63,3 +35,30 @@ module _ {A : Type 0} where
   sets-append d at (x ∷ xs) ys =
       sets-append (set d at x) (suc at) xs ys
       ∙ ap (λ (n : ℕ). sets (sets (set d at x) (suc at) xs) n ys) (suc-add at (length xs) ∙ sym (add-suc at (length xs)))
+
+  -- ---- a loop that writes s over all of d₀, which is as long
+
+  -- after i turns: d is d₀ with its first i elements replaced by those of s
+  pub record WrittenSoFar (d₀ s d : List A) (i : ℕ) : Type 0 where
+    pub within : i ≤ length d₀
+    pub as-long : length d ≡ length d₀
+    pub is-pasted : d ≡ paste d₀ 0 s i
+
+  pub writing-begins : (d₀ s : List A) → WrittenSoFar d₀ s d₀ 0
+  writing-begins d₀ s = record { within = omega arith; as-long = refl; is-pasted = paste-zero d₀ 0 s }
+
+  module _ {d₀ s d : List A} {i : ℕ} (same-length : length s ≡ length d₀) (so-far : WrittenSoFar d₀ s d i) where
+    pub writing-turn : (z v : A) → i < length d → v ≡ getD s i z → WrittenSoFar d₀ s (set d i v) (i + 1)
+    writing-turn z v h e =
+        let inside : i < length d₀ = omega (arith, so-far .as-long) in
+        record {
+          within = omega arith;
+          as-long = length-set d i v ∙ so-far .as-long;
+          is-pasted = rw (zero-add i) at (one-more z d₀ d 0 s i v (so-far .is-pasted) e (omega arith) (omega arith));
+        }
+
+    pub writing-ends : length d ≤ i → d ≡ s
+    writing-ends h =
+        all-written d₀ d 0 s i (so-far .is-pasted) (omega (arith, so-far .within, so-far .as-long))
+        ∙ ap (λ (l : List A). s ++ l) (drop-of-length-le d₀ {i = 0 + length s} (omega arith))
+        ∙ append-nil s

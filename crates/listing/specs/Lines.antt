@@ -8,9 +8,8 @@ use native.Mathlib.Nat.{eq-or-lt-of-le, suc-inj}
 use native.Mathlib.Numerals.{add-one}
 use lib.ListN.{length, length-append}
 use lib.IntN.{ℤ}
-use Rattle.definitions.specs.Limits.{poolResults}
 use Rattle.definitions.specs.Arithmetic.{joinTo}
-use Rattle.definitions.specs.Calls.{resultAt}
+use Rattle.definitions.specs.Calls.{resultAt, flowPlace, poolPlace}
 use Rattle.definitions.specs.Settle.{decimalZ, space, newline, bidLine, flowLine, priceLine}
 use Rattle.listing.specs.Put.{Put, nothing, then-put, same-bytes, room-second}
 
@@ -24,7 +23,7 @@ bidAt results i = bidLine (i + 1) (resultAt results i)
 
 -- the line of the flow from pool a to pool b, nothing if it is 0
 abbrev pub flowAt : (n m a : ℕ) → List ℤ → ℕ → List ℕ
-flowAt n m a results b = flowLine (a + 1) (b + 1) (resultAt results (n + (a * m + b)))
+flowAt n m a results b = flowLine (a + 1) (b + 1) (resultAt results (flowPlace n m a b))
 
 -- the lines of all flows from pool a
 unfoldable pub rowLines : (n m a : ℕ) → List ℤ → List ℕ
@@ -32,7 +31,7 @@ rowLines n m a results = joinTo m (flowAt n m a results)
 
 -- the line of pool p's price
 abbrev pub priceAt : (n m : ℕ) → List ℤ → ℕ → List ℕ
-priceAt n m results p = priceLine (p + 1) (resultAt results (n + m * m + poolResults * p)) (resultAt results (n + m * m + poolResults * p + 1))
+priceAt n m results p = priceLine (p + 1) (resultAt results (poolPlace n m p)) (resultAt results (poolPlace n m p + 1))
 
 pub lines-next : (k : ℕ) (line : ℕ → List ℕ) → joinTo (k + 1) line ≡ joinTo k line ++ line k
 unfolding joinTo

@@ -66,7 +66,7 @@ fn copy_results(n: usize, m: usize, sheet: &[u32], out: &mut [i32])
     copy_readings(sheet, from, out);
 }
 
-// Opens the results of a run for n bids and m pools, or refuses and leaves out as lent.
+// Opens the results of a run for n bids and m pools, or refuses and leaves `out` as lent.
 pub fn open(n: usize, m: usize, sheet: &[u32], out: &mut [i32]) -> Verdict
     ensures verdict { λ r. ⌜ refusalOf r ≡ openRefusal n m (now (sheet .entry)) (length (now (out .entry))) ⌝ }
     ensures results { λ _. ⌜ now (out .exit) ≡ openSlice n m (now (sheet .entry)) (now (out .entry)) ⌝ }

@@ -1,3 +1,3 @@
 -- Laws that the proofs cite.
+pub mod Acceptance
 pub mod Search
-pub mod Left

@@ -11,17 +11,17 @@ use lib.Seq.{drop-cons}
 use borrow.Author.Tests.{eq-eqb, ne-eqb}
 use Rattle.definitions.specs.Views.{isAmong}
 
-module _ (holder : ℕ) (holders : List ℕ) (i : ℕ) where
-  one-left : i < length holders → isAmong holder (drop i holders) ≡ (eqb (getD holders i 0) holder || isAmong holder (drop (i + 1) holders))
+module _ (holder : ℕ) (table : List ℕ) (i : ℕ) where
+  one-left : i < length table → isAmong holder (drop i table) ≡ (eqb (getD table i 0) holder || isAmong holder (drop (i + 1) table))
   unfolding isAmong
-  one-left h = rw (drop-cons holders i 0 h, add-one i) refl
+  one-left h = rw (drop-cons table i 0 h, add-one i) refl
 
-  pub found : i < length holders → getD holders i 0 ≡ holder → isAmong holder (drop i holders) ≡ true
-  found h e = one-left h ∙ ap (λ (t : Bool). t || isAmong holder (drop (i + 1) holders)) (eq-eqb _ _ e)
+  pub found : i < length table → getD table i 0 ≡ holder → isAmong holder (drop i table) ≡ true
+  found h e = one-left h ∙ ap (λ (t : Bool). t || isAmong holder (drop (i + 1) table)) (eq-eqb _ _ e)
 
-  pub passed-over : i < length holders → getD holders i 0 ≢ holder → isAmong holder (drop i holders) ≡ isAmong holder (drop (i + 1) holders)
-  passed-over h e = one-left h ∙ ap (λ (t : Bool). t || isAmong holder (drop (i + 1) holders)) (ne-eqb _ _ e)
+  pub passed-over : i < length table → getD table i 0 ≢ holder → isAmong holder (drop i table) ≡ isAmong holder (drop (i + 1) table)
+  passed-over h e = one-left h ∙ ap (λ (t : Bool). t || isAmong holder (drop (i + 1) table)) (ne-eqb _ _ e)
 
-  pub not-found : length holders ≤ i → isAmong holder (drop i holders) ≡ false
+  pub not-found : length table ≤ i → isAmong holder (drop i table) ≡ false
   unfolding isAmong
-  not-found h = ap (isAmong holder) (drop-of-length-le holders {i = i} h)
+  not-found h = ap (isAmong holder) (drop-of-length-le table {i = i} h)

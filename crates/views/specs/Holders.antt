@@ -52,11 +52,11 @@ entry-among (h ∷ table) (suc i) l = or-right (eqb h (getD table i 0)) (entry-a
     or-right false e = e
 
 pub views-add-up : (table : List ℕ) (results : List ℤ) (holders : List ℕ) → OneEach table holders → (i : ℕ) → i < length table
-    → sumOver holders (λ h. resultAt (viewOf h table results) i) ≡ resultAt results i
+    → sumOver holders (λ h. resultAt (viewOf table h results) i) ≡ resultAt results i
 views-add-up table results holders each i l =
     let x : ℕ = getD table i 0 in
     let v : ℤ = resultAt results i in
-    sum-same holders _ (λ h. cond (eqb x h) v (pos 0)) (λ h. view-at h table results i ∙ ap (λ (t : Bool). cond t v (pos 0)) (shown-bid h table i l))
+    sum-same holders _ (λ h. cond (eqb x h) v (pos 0)) (λ h. view-at table h results i ∙ ap (λ (t : Bool). cond t v (pos 0)) (shown-bid table h i l))
     ∙ sum-once x v holders (each .distinct)
     ∙ ap (λ (t : Bool). cond t v (pos 0)) (each .the-same x ∙ entry-among table i l)
 
@@ -101,6 +101,6 @@ module _ (n m : ℕ) (table : List ℕ) (results out : List ℤ) (right : result
       rw (right, eq-eqb (length table) n bids, eq-eqb (length out) (length results) as-long, sym (each .the-same holder) ∙ h) refl
 
   pub each-given : (holders : List ℕ) → OneEach table holders → (holder : ℕ) → isAmong holder holders ≡ true
-      → viewSlice n m table holder results out ≡ viewOf holder table results
+      → viewSlice n m table holder results out ≡ viewOf table holder results
   unfolding viewSlice
   each-given holders each holder h = rw (each-accepted holders each holder h) refl

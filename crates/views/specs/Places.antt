@@ -11,48 +11,48 @@ use Rattle.definitions.specs.Calls.{resultAt}
 use Rattle.definitions.specs.Views.{viewOf}
 
 -- whether a holder is shown what stands at a place of the results: its own bids' amounts, and all behind the bids
-unfoldable pub shown : (holder : ℕ) (holders : List ℕ) (k : ℕ) → Bool
-shown holder [] k = true
-shown holder (h ∷ holders) zero = eqb h holder
-shown holder (h ∷ holders) (suc k) = shown holder holders k
+unfoldable pub shown : (table : List ℕ) (holder : ℕ) (k : ℕ) → Bool
+shown [] holder k = true
+shown (h ∷ table) holder zero = eqb h holder
+shown (h ∷ table) holder (suc k) = shown table holder k
 
-pub shown-bid : (holder : ℕ) (holders : List ℕ) (k : ℕ) → k < length holders → shown holder holders k ≡ eqb (getD holders k 0) holder
+pub shown-bid : (table : List ℕ) (holder : ℕ) (k : ℕ) → k < length table → shown table holder k ≡ eqb (getD table k 0) holder
 unfolding shown
-shown-bid holder [] k l = absurd (omega arith)
-shown-bid holder (h ∷ holders) zero l = refl
-shown-bid holder (h ∷ holders) (suc k) l = shown-bid holder holders k (omega arith)
+shown-bid [] holder k l = absurd (omega arith)
+shown-bid (h ∷ table) holder zero l = refl
+shown-bid (h ∷ table) holder (suc k) l = shown-bid table holder k (omega arith)
 
-pub shown-behind : (holder : ℕ) (holders : List ℕ) (k : ℕ) → length holders ≤ k → shown holder holders k ≡ true
+pub shown-behind : (table : List ℕ) (holder : ℕ) (k : ℕ) → length table ≤ k → shown table holder k ≡ true
 unfolding shown
-shown-behind holder [] k l = refl
-shown-behind holder (h ∷ holders) zero l = absurd (omega arith)
-shown-behind holder (h ∷ holders) (suc k) l = shown-behind holder holders k (omega arith)
+shown-behind [] holder k l = refl
+shown-behind (h ∷ table) holder zero l = absurd (omega arith)
+shown-behind (h ∷ table) holder (suc k) l = shown-behind table holder k (omega arith)
 
-pub view-length : (holder : ℕ) (holders : List ℕ) (results : List ℤ) → length (viewOf holder holders results) ≡ length results
+pub view-length : (table : List ℕ) (holder : ℕ) (results : List ℤ) → length (viewOf table holder results) ≡ length results
 unfolding viewOf
-view-length holder [] results = refl
-view-length holder (h ∷ holders) [] = refl
-view-length holder (h ∷ holders) (x ∷ results) = ap suc (view-length holder holders results)
+view-length [] holder results = refl
+view-length (h ∷ table) holder [] = refl
+view-length (h ∷ table) holder (x ∷ results) = ap suc (view-length table holder results)
 
 -- 0 either way
 always-zero : (t : Bool) → pos 0 ≡ cond t (pos 0) (pos 0)
 always-zero true = refl
 always-zero false = refl
 
-pub view-at : (holder : ℕ) (holders : List ℕ) (results : List ℤ) (k : ℕ) → resultAt (viewOf holder holders results) k ≡ cond (shown holder holders k) (resultAt results k) (pos 0)
+pub view-at : (table : List ℕ) (holder : ℕ) (results : List ℤ) (k : ℕ) → resultAt (viewOf table holder results) k ≡ cond (shown table holder k) (resultAt results k) (pos 0)
 unfolding viewOf shown
-view-at holder [] results k = refl
-view-at holder (h ∷ holders) [] k = always-zero (shown holder (h ∷ holders) k)
-view-at holder (h ∷ holders) (x ∷ results) zero = refl
-view-at holder (h ∷ holders) (x ∷ results) (suc k) = view-at holder holders results k
+view-at [] holder results k = refl
+view-at (h ∷ table) holder [] k = always-zero (shown (h ∷ table) holder k)
+view-at (h ∷ table) holder (x ∷ results) zero = refl
+view-at (h ∷ table) holder (x ∷ results) (suc k) = view-at table holder results k
 
 -- by what is shown
-module _ (holder : ℕ) (holders : List ℕ) (results : List ℤ) (k : ℕ) where
-  by-test : {t : Bool} → shown holder holders k ≡ t → resultAt (viewOf holder holders results) k ≡ cond t (resultAt results k) (pos 0)
-  by-test e = view-at holder holders results k ∙ ap (λ (t : Bool). cond t (resultAt results k) (pos 0)) e
+module _ (table : List ℕ) (holder : ℕ) (results : List ℤ) (k : ℕ) where
+  by-test : {t : Bool} → shown table holder k ≡ t → resultAt (viewOf table holder results) k ≡ cond t (resultAt results k) (pos 0)
+  by-test e = view-at table holder results k ∙ ap (λ (t : Bool). cond t (resultAt results k) (pos 0)) e
 
-  pub view-shows : shown holder holders k ≡ true → resultAt results k ≡ resultAt (viewOf holder holders results) k
+  pub view-shows : shown table holder k ≡ true → resultAt results k ≡ resultAt (viewOf table holder results) k
   view-shows e = sym (by-test e)
 
-  pub view-hides : shown holder holders k ≡ false → pos 0 ≡ resultAt (viewOf holder holders results) k
+  pub view-hides : shown table holder k ≡ false → pos 0 ≡ resultAt (viewOf table holder results) k
   view-hides e = sym (by-test e)

@@ -8,14 +8,14 @@ use lib.ListN.{length}
 use mir.Syntax.{w32}
 use borrow.Author.Needs.{needs, scaled-fits}
 use Rattle.laws.specs.SignedTests.{back}
-use Rattle.laws.specs.Write.{Over, over-begins, over-turn, over-ends}
+use Rattle.laws.specs.Write.{WrittenSoFar, writing-begins, writing-turn, writing-ends}
 use Rattle.residues.specs.Residues.{read-residue}
 use Rattle.opening.proofs.Readings.{readings, readings-length, reading-at}
 use Rattle.opening.proofs.copy_readings.Statement.{statement}
 use Rattle.opening.proofs.copy_readings.Tie as tie
 
 abbrev Inv-loop : tie.InvT-loop
-Inv-loop sheet from out₀ i₀ out i = Over out₀ (readings sheet from (length out₀)) out i
+Inv-loop sheet from out₀ i₀ out i = WrittenSoFar out₀ (readings sheet from (length out₀)) out i
 
 abbrev μ-loop : tie.MeasureT-loop
 μ-loop sheet from out₀ i₀ out i = length out₀ - i
@@ -28,7 +28,7 @@ source-length : (s : tie.Start Inv-loop μ-loop) → length (source s) ≡ lengt
 source-length s = readings-length (s .args .sheet .now) (s .args .from) (length (s .args .out .now)) (s .pre .0)
 
 loop-holds : tie.Need-loop-holds Inv-loop μ-loop
-loop-holds c = over-begins (c .before .args .out .now) (source (c .before))
+loop-holds c = writing-begins (c .before .args .out .now) (source (c .before))
 
 mul-x : tie.Need-mul-x Inv-loop μ-loop
 mul-x c =
@@ -46,14 +46,14 @@ loop-again : tie.Need-loop-again Inv-loop μ-loop
 loop-again c =
     let s = c .before .before .before .before .before in
     let l = c .before .before .before .loop in
-    over-turn (source-length s) (l .inv) (pos 0) _ (c .before .before .loop-test .taken)
+    writing-turn (source-length s) (l .inv) (pos 0) _ (c .before .before .loop-test .taken)
     (back w32 (c .reading .result) (c .reading .ok)
     ∙ c .reading .ensures
     ∙ read-residue _ (s .pre .1 _)
     ∙ sym (reading-at (s .args .sheet .now) (s .args .from) (length (s .args .out .now)) (l .i) (omega arith)))
 
 returns : tie.Need-returns Inv-loop μ-loop
-returns c = over-ends (source-length (c .before .before .before)) (c .before .loop .inv) (c .loop-test .left)
+returns c = writing-ends (source-length (c .before .before .before)) (c .before .loop .inv) (c .loop-test .left)
 
 pub copy-readings-spec : {M : Type 1} → statement M
 copy-readings-spec =

@@ -5,7 +5,8 @@ use borrow.Author.Needs.{needs}
 use Rattle.definitions.specs.Answers.{none}
 use Rattle.definitions.specs.Calls.{openRefusal}
 use Rattle.laws.specs.Search.{turned-away, let-through}
-use Rattle.opening.proofs.Acceptance.{openable, slice-written, slice-kept}
+use Rattle.opening.specs.Openable.{openable}
+use Rattle.opening.proofs.Acceptance.{slice-written, slice-kept}
 use Rattle.opening.proofs.open.Statement.{statement}
 use Rattle.opening.proofs.open.Tie as tie
 

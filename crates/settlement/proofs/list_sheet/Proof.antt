@@ -9,18 +9,18 @@ use lib.ListN.{length}
 use lib.Seq.{length-take-le}
 use mir.Facts.{toZ-ofZ}
 use borrow.Author.Needs.{needs}
+use Rattle.definitions.specs.Limits.{bidLimit, poolLimit}
 use Rattle.definitions.specs.Calls.{openRefusal, openedResults}
 use Rattle.definitions.specs.Settle.{listing}
 use Rattle.definitions.specs.Sheet.{resultCount}
 use Rattle.listing.specs.Text.{textRoom, textSize, textSlice}
-use Rattle.settlement.proofs.Listed.{few}
+use Rattle.opening.specs.Openable.{openable}
 use Rattle.settlement.proofs.list_sheet.Statement.{statement}
 use Rattle.settlement.proofs.list_sheet.Tie as tie
 
--- 64 amounts, 16 flows, and 4 prices with their presence
-few-results : (c : tie.Start) → resultCount (c .args .n) (c .args .m) ≤ 88
+few-results : (c : tie.Start) → resultCount (c .args .n) (c .args .m) ≤ resultCount bidLimit poolLimit
 few-results c =
-    let counts = few (c .args .n) (c .args .m) (c .args .sheet .now) (resultCount (c .args .n) (c .args .m)) (c .pre) in
+    let counts = openable (c .args .n) (c .args .m) (c .args .sheet .now) (resultCount (c .args .n) (c .args .m)) (c .pre) .sizes .counts in
     omega (arith, counts .bids, counts .pools .most, mul-le-mul-right (c .args .m) (counts .pools .most))
 
 mul-count : tie.Need-mul-count

@@ -12,10 +12,10 @@ use Rattle.views.proofs.judge_holder.Statement.{statement}
 use Rattle.views.proofs.judge_holder.Tie as tie
 
 abbrev Inv-loop : tie.InvT-loop
-Inv-loop holders holder i₀ i = (i ≤ length holders) × (isAmong holder holders ≡ isAmong holder (drop i holders))
+Inv-loop table holder i₀ i = (i ≤ length table) × (isAmong holder table ≡ isAmong holder (drop i table))
 
 abbrev μ-loop : tie.MeasureT-loop
-μ-loop holders holder i₀ i = length holders - i
+μ-loop table holder i₀ i = length table - i
 
 loop-holds : tie.Need-loop-holds Inv-loop μ-loop
 loop-holds c = (omega arith, refl)
@@ -30,19 +30,19 @@ returns : tie.Need-returns Inv-loop μ-loop
 returns c =
     let l = c .before .before .before .loop in
     let a = c .before .before .before .before .args in
-    sym (ap (λ (t : Bool). cond t none (refuse 16 0)) (l .inv .1 ∙ found (a .holder) (a .holders .now) (l .i) (c .before .before .loop-test .taken) (c .if1 .taken)))
+    sym (ap (λ (t : Bool). cond t none (refuse 16 0)) (l .inv .1 ∙ found (a .holder) (a .table .now) (l .i) (c .before .before .loop-test .taken) (c .if1 .taken)))
 
 loop-again : tie.Need-loop-again Inv-loop μ-loop
 loop-again c =
     let l = c .before .before .before .loop in
     let a = c .before .before .before .before .args in
-    (omega arith, l .inv .1 ∙ passed-over (a .holder) (a .holders .now) (l .i) (c .before .before .loop-test .taken) (c .if1 .left))
+    (omega arith, l .inv .1 ∙ passed-over (a .holder) (a .table .now) (l .i) (c .before .before .loop-test .taken) (c .if1 .left))
 
 returns-2 : tie.Need-returns-2 Inv-loop μ-loop
 returns-2 c =
     let l = c .before .loop in
     let a = c .before .before .args in
-    sym (ap (λ (t : Bool). cond t none (refuse 16 0)) (l .inv .1 ∙ not-found (a .holder) (a .holders .now) (l .i) (c .loop-test .left)))
+    sym (ap (λ (t : Bool). cond t none (refuse 16 0)) (l .inv .1 ∙ not-found (a .holder) (a .table .now) (l .i) (c .loop-test .left)))
 
 pub judge-holder-spec : {M : Type 1} → statement M
 judge-holder-spec =

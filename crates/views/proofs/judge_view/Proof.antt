@@ -13,10 +13,10 @@ use Rattle.views.proofs.judge_view.Statement.{statement}
 use Rattle.views.proofs.judge_view.Tie as tie
 
 abbrev byLengths : tie.Start → Refusal
-byLengths s = lengthRefusal (eqb (length (s .args .holders .now)) (s .args .n) && eqb (s .args .view) (s .args .results))
+byLengths s = lengthRefusal (eqb (length (s .args .table .now)) (s .args .n) && eqb (s .args .view) (s .args .results))
 
 abbrev byHolder : tie.Start → Refusal
-byHolder s = holderRefusal (s .args .holder) (s .args .holders .now)
+byHolder s = holderRefusal (s .args .table .now) (s .args .holder)
 
 returns : tie.Need-returns
 unfolding viewRefusal

@@ -14,20 +14,20 @@ returns : tie.Need-returns
 returns c =
     let a = c .before .before .args in
     back w32 (getD (a .results .now) (a .i) (pos 0)) (c .result .given)
-    ∙ view-shows (a .holder) (a .holders .now) (a .results .now) (a .i) (shown-behind (a .holder) (a .holders .now) (a .i) (c .before .if1 .taken))
+    ∙ view-shows (a .table .now) (a .holder) (a .results .now) (a .i) (shown-behind (a .table .now) (a .holder) (a .i) (c .before .if1 .taken))
 
 returns-2 : tie.Need-returns-2
 returns-2 c =
     let a = c .before .before .before .args in
-    view-hides (a .holder) (a .holders .now) (a .results .now) (a .i)
-    (shown-bid (a .holder) (a .holders .now) (a .i) (c .before .before .if1 .left) ∙ ne-eqb _ _ (c .if2 .taken))
+    view-hides (a .table .now) (a .holder) (a .results .now) (a .i)
+    (shown-bid (a .table .now) (a .holder) (a .i) (c .before .before .if1 .left) ∙ ne-eqb _ _ (c .if2 .taken))
 
 returns-3 : tie.Need-returns-3
 returns-3 c =
     let a = c .before .before .before .before .args in
     back w32 (getD (a .results .now) (a .i) (pos 0)) (c .result2 .given)
-    ∙ view-shows (a .holder) (a .holders .now) (a .results .now) (a .i)
-    (shown-bid (a .holder) (a .holders .now) (a .i) (c .before .before .before .if1 .left) ∙ eq-eqb _ _ (c .before .if2 .left))
+    ∙ view-shows (a .table .now) (a .holder) (a .results .now) (a .i)
+    (shown-bid (a .table .now) (a .holder) (a .i) (c .before .before .before .if1 .left) ∙ eq-eqb _ _ (c .before .if2 .left))
 
 pub shown-at-spec : {M : Type 1} → statement M
 shown-at-spec =

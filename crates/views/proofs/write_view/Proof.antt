@@ -9,26 +9,26 @@ use mir.Syntax.{w32}
 use borrow.Author.Needs.{scaled-fits}
 use Rattle.definitions.specs.Views.{viewOf}
 use Rattle.laws.specs.SignedTests.{back}
-use Rattle.laws.specs.Write.{Over, over-begins, over-turn, over-ends}
+use Rattle.laws.specs.Write.{WrittenSoFar, writing-begins, writing-turn, writing-ends}
 use Rattle.views.specs.Places.{view-length}
 use Rattle.views.proofs.write_view.Statement.{statement}
 use Rattle.views.proofs.write_view.Tie as tie
 
 abbrev Inv-loop : tie.InvT-loop
-Inv-loop holders holder results out₀ i₀ out i = Over out₀ (viewOf holder holders results) out i
+Inv-loop table holder results out₀ i₀ out i = WrittenSoFar out₀ (viewOf table holder results) out i
 
 abbrev μ-loop : tie.MeasureT-loop
-μ-loop holders holder results out₀ i₀ out i = length out₀ - i
+μ-loop table holder results out₀ i₀ out i = length out₀ - i
 
 -- what is to be written
 abbrev source : tie.Start Inv-loop μ-loop → List ℤ
-source s = viewOf (s .args .holder) (s .args .holders .now) (s .args .results .now)
+source s = viewOf (s .args .table .now) (s .args .holder) (s .args .results .now)
 
 source-length : (s : tie.Start Inv-loop μ-loop) → length (source s) ≡ length (s .args .out .now)
-source-length s = view-length (s .args .holder) (s .args .holders .now) (s .args .results .now) ∙ sym (s .pre)
+source-length s = view-length (s .args .table .now) (s .args .holder) (s .args .results .now) ∙ sym (s .pre)
 
 loop-holds : tie.Need-loop-holds Inv-loop μ-loop
-loop-holds c = over-begins (c .before .args .out .now) (source (c .before))
+loop-holds c = writing-begins (c .before .args .out .now) (source (c .before))
 
 shown-at-requires : tie.Need-shown-at-requires Inv-loop μ-loop
 shown-at-requires c κs = let s = c .before .before .before in omega (arith, s .pre)
@@ -41,11 +41,11 @@ mul-number c =
 
 loop-again : tie.Need-loop-again Inv-loop μ-loop
 loop-again c =
-    over-turn (source-length (c .before .before .before .before)) (c .before .before .loop .inv) (pos 0) _ (c .before .loop-test .taken)
+    writing-turn (source-length (c .before .before .before .before)) (c .before .before .loop .inv) (pos 0) _ (c .before .loop-test .taken)
     (back w32 (c .shown-at .result) (c .shown-at .ok) ∙ c .shown-at .ensures)
 
 returns : tie.Need-returns Inv-loop μ-loop
-returns c = over-ends (source-length (c .before .before .before)) (c .before .loop .inv) (c .loop-test .left)
+returns c = writing-ends (source-length (c .before .before .before)) (c .before .loop .inv) (c .loop-test .left)
 
 pub write-view-spec : {M : Type 1} → statement M
 write-view-spec =
