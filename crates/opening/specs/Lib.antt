@@ -1,3 +1,4 @@
--- What is known of a sheet that is opened, and what is opened of one that holds a book's best clearing.
+-- Readings of a sheet, what is known of one that is opened, and what is opened of one that holds a book's best clearing.
+pub mod Readings
 pub mod Openable
 pub mod Opened

@@ -1,15 +1,13 @@
 -- What is known of counts, sheet and results that opening does not refuse, and how many results it gives (`opened-length`).
 use Prim.Native.Nat.{ℕ, _+_, _≤_, _<_}
-use mathlib.Core.Path.{_≡_, _∙_}
+use mathlib.Core.Path.{_≡_}
 use mathlib.Core.List.{List}
 use native.Mathlib.Omega.{arith}
 use native.Mathlib.Nat.{mul-le-mul-right}
 use lib.Dec.{eqb}
-use lib.ListN.{length, take, drop, length-map, length-drop}
-use lib.Seq.{length-take-le}
+use lib.ListN.{length}
 use borrow.Author.Tests.{eqb-true}
 use Rattle.definitions.specs.Limits.{bidLimit, poolLimit, cellCount, modulus}
-use Rattle.definitions.specs.Arithmetic.{reading}
 use Rattle.definitions.specs.Answers.{Refusal, none, first}
 use Rattle.definitions.specs.Sheet.{firstResult, resultCount}
 use Rattle.definitions.specs.Machine.{cell}
@@ -17,6 +15,7 @@ use Rattle.definitions.specs.Calls.{resultsRefusal, lengthRefusal, cellsRefusal
 use Rattle.laws.specs.Refusal.{test-passed, first-left, first-right}
 use Rattle.laws.specs.Sizes.{Results, results-counted}
 use Rattle.judging.specs.Cells.{cells-below}
+use Rattle.opening.specs.Readings.{readings-length}
 
 -- the results of few bids and pools end on the sheet
 pub results-end : (n m : ℕ) → n ≤ bidLimit → m ≤ poolLimit → firstResult n m + resultCount n m ≤ cellCount
@@ -48,6 +47,4 @@ module _ (n m : ℕ) (sheet : List ℕ) (results : ℕ) (opens : openRefusal n m
   unfolding openedResults
   opened-length =
       let counts = openable .sizes .counts in
-      length-map (take (resultCount n m) (drop (firstResult n m) sheet)) reading
-      ∙ length-take-le (resultCount n m) (drop (firstResult n m) sheet)
-      (omega (arith, length-drop (firstResult n m) sheet, openable .cells, results-end n m (counts .bids) (counts .pools .most)))
+      readings-length sheet (firstResult n m) (resultCount n m) (omega (arith, openable .cells, results-end n m (counts .bids) (counts .pools .most)))

@@ -21,12 +21,9 @@ use Rattle.definitions.specs.Calls.{AcceptedBook, openedResults}
 use Rattle.definitions.specs.Outcome.{Outcome, resultOf, priceNumbers, clearingResults}
 use Rattle.laws.specs.AcceptedBook.{Sound, accepted-sound}
 use Rattle.residues.specs.Residues.{reads-itself, reading-residue}
+use Rattle.opening.specs.Readings.{readings}
 
 -- ---- parts of a sheet, read
-
--- the readings of k cells from one on
-abbrev readings : List ℕ → (from k : ℕ) → List ℤ
-readings s from k = map reading (take k (drop from s))
 
 -- of two parts, one after the other
 both-read : (s : List ℕ) (from j k : ℕ) → readings s from (j + k) ≡ readings s from j ++ readings s (from + j) k

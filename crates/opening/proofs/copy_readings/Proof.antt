@@ -10,7 +10,7 @@ use borrow.Author.Needs.{needs, scaled-fits}
 use Rattle.laws.specs.SignedTests.{back}
 use Rattle.laws.specs.Write.{WrittenSoFar, writing-begins, writing-turn, writing-ends}
 use Rattle.residues.specs.Residues.{read-residue}
-use Rattle.opening.proofs.Readings.{readings, readings-length, reading-at}
+use Rattle.opening.specs.Readings.{readings, readings-length, reading-at}
 use Rattle.opening.proofs.copy_readings.Statement.{statement}
 use Rattle.opening.proofs.copy_readings.Tie as tie
 

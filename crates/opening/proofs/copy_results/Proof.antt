@@ -4,7 +4,7 @@ use native.Mathlib.Omega.{arith}
 use lib.ListN.{length}
 use borrow.Author.Needs.{needs}
 use Rattle.opening.proofs.Acceptance.{square}
-use Rattle.opening.proofs.Readings.{opened}
+use Rattle.opening.specs.Readings.{opened}
 use Rattle.opening.proofs.copy_results.Statement.{statement}
 use Rattle.opening.proofs.copy_results.Tie as tie
 
