@@ -231,21 +231,21 @@ def write(plans, words):
 
 
 def view(plans, words):
-    n, m, holder, holders, results, lent = words.number(), words.number(), words.number(), words.slice(), words.signed_slice(), words.signed_slice()
+    n, m, holder, table, results, lent = words.number(), words.number(), words.number(), words.slice(), words.signed_slice(), words.signed_slice()
     words.ended()
 
     def made():
         counts(n, m)
-        lengths((holders, n), (results, orders.result_count(n, m)), (lent, orders.result_count(n, m)))
+        lengths((table, n), (results, orders.result_count(n, m)), (lent, orders.result_count(n, m)))
         bids = collections.defaultdict(list)
-        for i, owner in enumerate(holders):
+        for i, owner in enumerate(table):
             bids[owner].append(i)
         if holder not in bids:
             raise Refused(16, 0)
-        page = [0] * n + results[n:]
+        shown = [0] * n + results[n:]
         for i in bids[holder]:
-            page[i] = results[i]
-        return [line("view", page)]
+            shown[i] = results[i]
+        return [line("view", shown)]
     return answered(made, [], [("view", lent)])
 
 

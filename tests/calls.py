@@ -164,22 +164,22 @@ def write(draw, plans, faults):
 def view(draw, plans, faults):
     n, m = draw.randint(0, BIDS), draw.randint(1, POOLS)
     few = draw.sample(HOLDERS, draw.randint(1, 4)) + [draw.randrange(WORDS)]
-    holders = [draw.choice(few) for _ in range(n)]
-    holder = draw.choice(holders + few[:1])
+    table = [draw.choice(few) for _ in range(n)]
+    holder = draw.choice(table + few[:1])
     results, lent = ([draw.choice([LEAST, GREATEST, -1, 0, draw.randint(1, QUANTITY)]) for _ in range(orders.result_count(n, m))] for _ in range(2))
     for _ in range(faults):
         kind = draw.randrange(5)
         if kind == 0:
             n, m = bad_counts(draw, n, m)
         elif kind == 1:
-            holders = other_length(draw, holders)
+            table = other_length(draw, table)
         elif kind == 2:
             results = other_length(draw, results)
         elif kind == 3:
             lent = other_length(draw, lent)
         else:
             holder = draw.choice([0, holder ^ 1, holder ^ 2**31, (holder + 1) % WORDS, WORDS - 1])
-    return call(9, [n, m, holder], holders, results, lent)
+    return call(9, [n, m, holder], table, results, lent)
 
 
 # ---- Input that is no call's
@@ -249,7 +249,7 @@ def stored():
 
 
 def main():
-    program, dump, count, draw = arguments.taken(2, 2400)
+    program, dump, count, draw = arguments.taken(2, 2700)
     plans = answers.Plans(dump)
     seen = collections.defaultdict(set)
 

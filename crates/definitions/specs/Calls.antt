@@ -101,7 +101,7 @@ cellsRefusal sheet = firstFrom 0 (length sheet) (λ c. cond (ltb (cell sheet c) 
 
 -- ---- Opening
 
--- of n, m and the length of a slice for the results: 1, 2, 3
+-- of n, m and the number of results: 1, 2, 3
 abbrev pub resultsRefusal : (n m results : ℕ) → Refusal
 resultsRefusal n m results = first (countsRefusal n m) (lengthRefusal (eqb results (resultCount n m)))
 
@@ -116,16 +116,20 @@ openRefusal n m sheet results =
 unfoldable pub openedResults : (n m : ℕ) (sheet : List ℕ) → List ℤ
 openedResults n m sheet = map reading (take (resultCount n m) (drop (firstResult n m) sheet))
 
--- one of the opened results: n amounts, m × m flows, then price and presence of each pool
+-- one of the opened results: n amounts, m × m flows, then the results of each pool
 abbrev pub resultAt : List ℤ → ℕ → ℤ
 resultAt results i = getD results i (pos 0)
 
--- the place of a flow among them, and of a pool's first number
+-- the place of a flow among them, of a pool's first number, which is its price
 abbrev pub flowPlace : (n m a b : ℕ) → ℕ
 flowPlace n m a b = n + (a * m + b)
 
 abbrev pub poolPlace : (n m p : ℕ) → ℕ
 poolPlace n m p = n + m * m + poolResults * p
+
+-- and of its presence
+abbrev pub presencePlace : (n m p : ℕ) → ℕ
+presencePlace n m p = poolPlace n m p + 1
 
 -- the slice that opening leaves
 unfoldable pub openSlice : (n m : ℕ) (sheet : List ℕ) (out : List ℤ) → List ℤ

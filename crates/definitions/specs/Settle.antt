@@ -10,7 +10,7 @@ use Rattle.definitions.specs.Limits.{cellCount, bidNumbers}
 use Rattle.definitions.specs.Arithmetic.{joinTo, within}
 use Rattle.definitions.specs.Book.{Book, book}
 use Rattle.definitions.specs.Answers.{Refusal, none, refuse, numberOf, placeOf}
-use Rattle.definitions.specs.Calls.{countsRefusal, sealRefusal, openedResults, resultAt, flowPlace, poolPlace}
+use Rattle.definitions.specs.Calls.{countsRefusal, sealRefusal, openedResults, resultAt, flowPlace, poolPlace, presencePlace}
 use Rattle.definitions.specs.Plan.{Plan}
 use Rattle.definitions.specs.Outcome.{planRun, clearWelfare}
 
@@ -211,7 +211,7 @@ flowLines n m results = joinTo m (λ a. joinTo m (λ b. flowLine (a + 1) (b + 1)
 -- the lines of all pools
 unfoldable pub priceLines : (n m : ℕ) → List ℤ → List ℕ
 priceLines n m results =
-    joinTo m (λ p. priceLine (p + 1) (resultAt results (poolPlace n m p)) (resultAt results (poolPlace n m p + 1)))
+    joinTo m (λ p. priceLine (p + 1) (resultAt results (poolPlace n m p)) (resultAt results (presencePlace n m p)))
 
 -- the text printed for a cleared book, as for example 2
 unfoldable pub listing : (n m : ℕ) (results : List ℤ) (w : ℤ) → List ℕ

@@ -47,7 +47,7 @@ viewSlice n m table holder results out =
 pub record Agree (n m : ℕ) (table : List ℕ) (holder : ℕ) (r s : List ℤ) : Type 0 where
   pub amounts : (i : ℕ) → i < n → getD table i 0 ≡ holder → resultAt r i ≡ resultAt s i
   pub flows : (a b : ℕ) → a < m → b < m → resultAt r (flowPlace n m a b) ≡ resultAt s (flowPlace n m a b)
-  -- the numbers of each pool, its price and its presence
+  -- all results of each pool
   pub prices : (p k : ℕ) → p < m → k < poolResults → resultAt r (poolPlace n m p + k) ≡ resultAt s (poolPlace n m p + k)
 
 -- no holder stands twice in a list

@@ -1,4 +1,4 @@
--- What a book's counts and lengths are, if they are not refused.
+-- What counts, a number of results and a book's lengths are, if they are not refused.
 use Prim.Native.Nat.{ℕ, _*_, _≤_}
 use mathlib.Core.Path.{_≡_, refl}
 use mathlib.Core.Bool.{Bool, true, false, cond, _&&_, _||_}

@@ -1,5 +1,5 @@
 -- Lines one after another: the next line joins those before it, and some of them are no longer than all.
-use Prim.Native.Nat.{ℕ, zero, suc, _+_, _*_, _≤_, _<_}
+use Prim.Native.Nat.{ℕ, zero, suc, _+_, _≤_, _<_}
 use mathlib.Core.Path.{_≡_, refl, ap}
 use mathlib.Core.Logic.{_⊎_, inl, inr}
 use mathlib.Core.List.{List, _++_}
@@ -9,7 +9,7 @@ use native.Mathlib.Numerals.{add-one}
 use lib.ListN.{length, length-append}
 use lib.IntN.{ℤ}
 use Rattle.definitions.specs.Arithmetic.{joinTo}
-use Rattle.definitions.specs.Calls.{resultAt, flowPlace, poolPlace}
+use Rattle.definitions.specs.Calls.{resultAt, flowPlace, poolPlace, presencePlace}
 use Rattle.definitions.specs.Settle.{decimalZ, space, newline, bidLine, flowLine, priceLine}
 use Rattle.listing.specs.Put.{Put, nothing, then-put, same-bytes, room-second}
 
@@ -31,7 +31,7 @@ rowLines n m a results = joinTo m (flowAt n m a results)
 
 -- the line of pool p's price
 abbrev pub priceAt : (n m : ℕ) → List ℤ → ℕ → List ℕ
-priceAt n m results p = priceLine (p + 1) (resultAt results (poolPlace n m p)) (resultAt results (poolPlace n m p + 1))
+priceAt n m results p = priceLine (p + 1) (resultAt results (poolPlace n m p)) (resultAt results (presencePlace n m p))
 
 pub lines-next : (k : ℕ) (line : ℕ → List ℕ) → joinTo (k + 1) line ≡ joinTo k line ++ line k
 unfolding joinTo

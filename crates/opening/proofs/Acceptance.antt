@@ -1,4 +1,4 @@
--- The slice that opening leaves, and a bound on the lines.
+-- The slice that opening leaves, and a bound on the square of a pool count.
 use Prim.Native.Nat.{ℕ, _*_, _≤_}
 use mathlib.Core.Path.{_≡_, sym, ap}
 use mathlib.Core.Bool.{false}

@@ -11,7 +11,7 @@ use lib.Arith.{digits-lt}
 use lib.IntN.{ℤ, pos, natAbs}
 use lib.Signed.{ltZ}
 use lib.Seq.{drop-cons, drop-drop, take-add}
-use Rattle.definitions.specs.Limits.{poolLimit, priceLimit, greatestPositive}
+use Rattle.definitions.specs.Limits.{poolLimit, priceLimit, greatestPositive, poolResults}
 use Rattle.definitions.specs.Arithmetic.{joinTo, reading}
 use Rattle.definitions.specs.Book.{Book, price}
 use Rattle.definitions.specs.Sheet.{firstResult, resultCount, firstScratch, amountCell, flowCell, priceCell}
@@ -119,10 +119,10 @@ module _ (B : Book) (accepted : AcceptedBook B) (s : List ℕ) (left : Outcome B
   abbrev prices : ℕ
   prices = flows + B .m * B .m
 
-  pool-read : (p : ℕ) → p < B .m → readings s (prices + p * 2) 2 ≡ priceNumbers (poolPrice B (resultOf B s .accepted) p)
+  pool-read : (p : ℕ) → p < B .m → readings s (prices + p * poolResults) poolResults ≡ priceNumbers (poolPrice B (resultOf B s .accepted) p)
   unfolding poolPrice
   pool-read p l =
-      let e : prices + p * 2 ≡ priceCell (B .n) (B .m) p = omega arith in
+      let e : prices + p * poolResults ≡ priceCell (B .n) (B .m) p = omega arith in
       rw e
       (two-read s (priceCell (B .n) (B .m) p) (on-sheet _ (omega arith))
       ∙ ap₂ (λ (x y : ℕ). reading x ∷ reading y ∷ []) (left .prices p l) (left .presences p l)
@@ -131,11 +131,11 @@ module _ (B : Book) (accepted : AcceptedBook B) (s : List ℕ) (left : Outcome B
   pub opened-outcome : openedResults (B .n) (B .m) s ≡ clearingResults B (resultOf B s)
   unfolding openedResults clearingResults
   opened-outcome =
-      let counts : resultCount (B .n) (B .m) ≡ B .n * 1 + (B .m * B .m + B .m * 2) = omega arith in
+      let counts : resultCount (B .n) (B .m) ≡ B .n * 1 + (B .m * B .m + B .m * poolResults) = omega arith in
       let first : ℕ = firstResult (B .n) (B .m) in
       ap (readings s first) counts
-      ∙ both-read s first (B .n * 1) (B .m * B .m + B .m * 2)
+      ∙ both-read s first (B .n * 1) (B .m * B .m + B .m * poolResults)
       ∙ ap₂ _++_ (parts-read s first (B .n) 1 _ amount-read)
-      (ap (λ (from : ℕ). readings s from (B .m * B .m + B .m * 2)) (let e : first + B .n * 1 ≡ flows = omega arith in e)
-      ∙ both-read s flows (B .m * B .m) (B .m * 2)
-      ∙ ap₂ _++_ (parts-read s flows (B .m) (B .m) _ row-read) (parts-read s prices (B .m) 2 _ pool-read))
+      (ap (λ (from : ℕ). readings s from (B .m * B .m + B .m * poolResults)) (let e : first + B .n * 1 ≡ flows = omega arith in e)
+      ∙ both-read s flows (B .m * B .m) (B .m * poolResults)
+      ∙ ap₂ _++_ (parts-read s flows (B .m) (B .m) _ row-read) (parts-read s prices (B .m) poolResults _ pool-read))

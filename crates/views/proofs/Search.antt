@@ -12,15 +12,16 @@ use borrow.Author.Tests.{eq-eqb, ne-eqb}
 use Rattle.definitions.specs.Views.{isAmong}
 
 module _ (holder : ℕ) (table : List ℕ) (i : ℕ) where
-  one-left : i < length table → isAmong holder (drop i table) ≡ (eqb (getD table i 0) holder || isAmong holder (drop (i + 1) table))
+  -- from i on: the entry there, or one behind it
+  here-or-later : i < length table → isAmong holder (drop i table) ≡ (eqb (getD table i 0) holder || isAmong holder (drop (i + 1) table))
   unfolding isAmong
-  one-left h = rw (drop-cons table i 0 h, add-one i) refl
+  here-or-later h = rw (drop-cons table i 0 h, add-one i) refl
 
   pub found : i < length table → getD table i 0 ≡ holder → isAmong holder (drop i table) ≡ true
-  found h e = one-left h ∙ ap (λ (t : Bool). t || isAmong holder (drop (i + 1) table)) (eq-eqb _ _ e)
+  found h e = here-or-later h ∙ ap (λ (t : Bool). t || isAmong holder (drop (i + 1) table)) (eq-eqb _ _ e)
 
   pub passed-over : i < length table → getD table i 0 ≢ holder → isAmong holder (drop i table) ≡ isAmong holder (drop (i + 1) table)
-  passed-over h e = one-left h ∙ ap (λ (t : Bool). t || isAmong holder (drop (i + 1) table)) (ne-eqb _ _ e)
+  passed-over h e = here-or-later h ∙ ap (λ (t : Bool). t || isAmong holder (drop (i + 1) table)) (ne-eqb _ _ e)
 
   pub not-found : length table ≤ i → isAmong holder (drop i table) ≡ false
   unfolding isAmong

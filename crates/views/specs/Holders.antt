@@ -1,6 +1,6 @@
 -- "the views of the table's holders, one each, add up to the opened amounts in the bids' places" (`views-add-up`). There is such a list of
--- holders for every table (`one-each`), and each of them is given its view (`each-accepted`, `each-given`).
-use Prim.Native.Nat.{ℕ, zero, suc, _+_, _<_}
+-- holders for every table (`one-each`), and the call gives each holder of the table its view (`holder-accepted`, `holder-given`).
+use Prim.Native.Nat.{ℕ, zero, suc, _<_}
 use mathlib.Core.Path.{_≡_, refl, sym, ap, ap₂, _∙_}
 use mathlib.Core.Bool.{Bool, true, false, cond, _||_}
 use mathlib.Core.List.{List, [], _∷_}
@@ -91,16 +91,13 @@ distinct-each (h ∷ table) = go (isAmong h table) refl (distinct-each table)
 pub one-each : (table : List ℕ) → (holders : List ℕ) × OneEach table holders
 one-each table = (oneEach table, record { the-same = among-each table; distinct = distinct-each table })
 
--- ---- each of them is given its view, whatever the slice held
+-- ---- the call gives each holder of the table its view, whatever the slice held
 
-module _ (n m : ℕ) (table : List ℕ) (results out : List ℤ) (right : resultsRefusal n m (length results) ≡ none) (bids : length table ≡ n) (as-long : length out ≡ length results) where
-  pub each-accepted : (holders : List ℕ) → OneEach table holders → (holder : ℕ) → isAmong holder holders ≡ true
-      → viewRefusal n m table holder (length results) (length out) ≡ none
+module _ (n m : ℕ) (table : List ℕ) (holder : ℕ) (results out : List ℤ) (right : resultsRefusal n m (length results) ≡ none) (bids : length table ≡ n) (as-long : length out ≡ length results) (has-bid : isAmong holder table ≡ true) where
+  pub holder-accepted : viewRefusal n m table holder (length results) (length out) ≡ none
   unfolding viewRefusal
-  each-accepted holders each holder h =
-      rw (right, eq-eqb (length table) n bids, eq-eqb (length out) (length results) as-long, sym (each .the-same holder) ∙ h) refl
+  holder-accepted = rw (right, eq-eqb (length table) n bids, eq-eqb (length out) (length results) as-long, has-bid) refl
 
-  pub each-given : (holders : List ℕ) → OneEach table holders → (holder : ℕ) → isAmong holder holders ≡ true
-      → viewSlice n m table holder results out ≡ viewOf table holder results
+  pub holder-given : viewSlice n m table holder results out ≡ viewOf table holder results
   unfolding viewSlice
-  each-given holders each holder h = rw (each-accepted holders each holder h) refl
+  holder-given = rw holder-accepted refl
