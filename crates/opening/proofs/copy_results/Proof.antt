@@ -3,7 +3,7 @@ use mathlib.Core.Path.{_∙_}
 use native.Mathlib.Omega.{arith}
 use lib.ListN.{length}
 use borrow.Author.Needs.{needs}
-use Rattle.opening.proofs.Acceptance.{square}
+use Rattle.opening.specs.Openable.{results-end}
 use Rattle.opening.specs.Readings.{opened}
 use Rattle.opening.proofs.copy_results.Statement.{statement}
 use Rattle.opening.proofs.copy_results.Tie as tie
@@ -11,7 +11,7 @@ use Rattle.opening.proofs.copy_results.Tie as tie
 copy-readings-requires : tie.Need-copy-readings-requires
 copy-readings-requires c κs =
     let s = c .before .before .before in
-    (omega (arith, square (s .args .m) (s .pre .0 .1)), s .pre .1 .1)
+    (omega (arith, results-end (s .args .n) (s .args .m) (s .pre .0 .0) (s .pre .0 .1)), s .pre .1 .1)
 
 returns : tie.Need-returns
 returns c =
