@@ -1,5 +1,6 @@
 -- Facts about numbers, tests, sums, lists and refusals that several crates cite.
 pub mod Tests
+pub mod Rows
 pub mod Sum
 pub mod Extremes
 pub mod SignedTests

@@ -1,6 +1,6 @@
 -- Tests on numbers, with what they say: match on `eq? a b` or `lt? a b`, whose index is the test's value.
 use mathlib.Core.Path.{_≡_, refl, sym, subst}
-use mathlib.Core.Bool.{Bool, true, false, _&&_, true≢false}
+use mathlib.Core.Bool.{Bool, true, false, _&&_, _||_, true≢false}
 use mathlib.Core.Logic.{_≢_}
 use Prim.Native.Nat.{ℕ, _≤_, _<_}
 use native.Mathlib.Omega.{arith}
@@ -45,3 +45,11 @@ and-left false y e = e
 pub and-right : (x y : Bool) → (x && y) ≡ true → y ≡ true
 and-right true y e = e
 and-right false y e = absurd (true≢false (sym e))
+
+-- one of two tests holds
+pub or-left : (x y : Bool) → x ≡ true → (x || y) ≡ true
+or-left x y e = rw e refl
+
+pub or-right : (x y : Bool) → y ≡ true → (x || y) ≡ true
+or-right true y e = refl
+or-right false y e = e

@@ -3,8 +3,8 @@ use mathlib.Core.Path.{_≡_, refl, ap, _∙_}
 use mathlib.Core.Logic.{_≢_, _⊎_, inl, inr}
 use mathlib.Core.Bool.{Bool, true, false, not, cond}
 use mathlib.Core.List.{List, [], _∷_, _++_}
-use Prim.Native.Nat.{ℕ, zero, suc, _-_, _*_, _%_, _/_, _^_, _≤_, _<_, min}
-use native.Mathlib.Nat.{mod-lt, div-lt-iff-lt-mul, eq-or-lt-of-le, le-of-suc-le-suc, not-suc-le-zero}
+use Prim.Native.Nat.{ℕ, suc, _-_, _*_, _%_, _/_, _^_, _≤_, _<_, min}
+use native.Mathlib.Nat.{eq-or-lt-of-le, le-of-suc-le-suc, not-suc-le-zero}
 use native.Mathlib.Omega.{arith}
 use lib.Arith.{lt-one}
 use lib.Dec.{eqb, lit<}
@@ -12,6 +12,7 @@ use borrow.Author.Tests.{ne-eqb}
 use Rattle.definitions.specs.Limits.{poolLimit}
 use Rattle.definitions.specs.Arithmetic.{on, sumTo}
 use Rattle.definitions.specs.Book.{Book, capacity}
+use Rattle.laws.specs.Rows.{row-column}
 use Rattle.laws.specs.Extremes.{minTo}
 use Rattle.laws.specs.AcceptedBook.{poolIndex, Sound}
 use Rattle.theory.specs.ClosedBest.{sizeTotal, amountLimit, placement-small, placement-cut, cut-small, slack-small, taken-slack, flow-and-rest}
@@ -27,11 +28,6 @@ use Rattle.plan.specs.Blocks.{Block, placementTurn, slackBlock, restCell
 use Rattle.plan.specs.Table.{placementBlock, subsetBlocks, restBlock, takeBlock, lineBlock}
 use Rattle.plan.specs.Cuts.{subsets-frame}
 use Rattle.plan.specs.Bounds.{sum-limit, used-small}
-
--- the ends of line l are pools
-pub line-ends : (m l : ℕ) → l < m * m → (l / m < m) × (l % m < m)
-line-ends zero l h = absurd (omega arith)
-line-ends (suc m) l h = let positive : 0 < suc m = omega arith in (div-lt-iff-lt-mul positive .1 h, mod-lt l positive)
 
 -- what a line writes: of the flows only its own
 line-frame : (n m l a b : ℕ) → writes (among (Flows ∷ Temporaries ∷ Slacks ∷ [])) (restBlock n m a b ++ takeBlock n m l a b) ≡ true
@@ -175,8 +171,8 @@ module _ (B : Book) (sound : Sound B) where
       let a : ℕ = l / B .m in
       let b : ℕ = l % B .m in
       let x : ℕ → ℕ = slackAfter B l in
-      let la : a < B .m = line-ends (B .m) l h .0 in
-      let lb : b < B .m = line-ends (B .m) l h .1 in
+      let la : a < B .m = row-column (B .m) l h .row in
+      let lb : b < B .m = row-column (B .m) l h .column in
       let small : (S : ℕ) → x S ≤ amountLimit = slack-small B sound l in
       let fits : (S : ℕ) → S < 2 ^ B .m → takenOf B x a b S ≤ x S = λ S _. taken-slack B sound l S h in
       let rested : State = run (restBlock (B .n) (B .m) a b) t in

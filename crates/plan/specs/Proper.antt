@@ -5,6 +5,7 @@ use Prim.Native.Nat.{ℕ, _*_, _%_, _/_, _^_, _≤_, _<_}
 use native.Mathlib.Omega.{arith}
 use lib.Dec.{ltb}
 use Rattle.definitions.specs.Limits.{modulus}
+use Rattle.laws.specs.Rows.{row-column}
 use Rattle.laws.specs.Tests.{Eq?, same, diff, eq?}
 use Rattle.plan.specs.Orders.{OrderOn, constant, operate}
 use Rattle.plan.specs.Layout.{Named}
@@ -12,7 +13,6 @@ use Rattle.plan.specs.Names.{Family, number, Name, at, family, Amounts, 
 use Rattle.plan.specs.Subsets.{leaves, lowest, others, lowest-below, others-below}
 use Rattle.plan.specs.Running.{subsetOrder, subsetBlock, lowered}
 use Rattle.plan.specs.Blocks.{cutTurn, testAt, testOrder, gainTurn, costTurn, restStart, restCell, restTurn, flowBlock, takenCell, takeTurn}
-use Rattle.plan.specs.Lines.{line-ends}
 use Rattle.plan.specs.Loops.{loop}
 use Rattle.plan.specs.Entries.{_&_, All, all-loop}
 use Rattle.plan.specs.Phased.{EachPart, EachPhase}
@@ -89,7 +89,7 @@ module _ (n m : ℕ) where
     b = l % m
 
     capacity-valid : Valid (Capacity a b)
-    capacity-valid = (omega arith, line-ends m l h .0, line-ends m l h .1)
+    capacity-valid = (omega arith, row-column m l h .row, row-column m l h .column)
 
     -- its first order, and that of its flow
     line-proper : All Proper (restStart a b) × All Proper (flowBlock l a b)

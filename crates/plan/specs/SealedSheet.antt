@@ -4,7 +4,7 @@ use mathlib.Core.Bool.{Bool}
 use mathlib.Core.List.{List, _++_, map, append-assoc}
 use Prim.Native.Nat.{ℕ, zero, suc, _+_, _-_, _*_, _≤_, _<_, _/_, _%_}
 use native.Mathlib.Omega.{arith}
-use native.Mathlib.Nat.{mul-le-mul, mod-lt, div-lt-iff-lt-mul, div-add-mod'}
+use native.Mathlib.Nat.{mul-le-mul}
 use lib.IntN.{pos, natAbs}
 use lib.ListN.{length, getD, replicate, length-append, length-map, length-replicate, getD-replicate, List·getD-append, List·getD-map, List·getD-eq-default}
 use lib.Seq.{getD-append-add}
@@ -13,6 +13,7 @@ use Rattle.definitions.specs.Arithmetic.{residue}
 use Rattle.definitions.specs.Book.{Book, capacityEntry}
 use Rattle.definitions.specs.Sheet.{sealedSheet, firstResult}
 use Rattle.definitions.specs.Machine.{cell, IsSheet}
+use Rattle.laws.specs.Rows.{row-column}
 use Rattle.laws.specs.Tests.{Lt?, less, more, lt?}
 use Rattle.laws.specs.AcceptedBook.{Sound}
 use Rattle.plan.specs.Names.{at}
@@ -104,11 +105,9 @@ module _ (B : Book) where
 
     capacity-below : (k : ℕ) → k < B .m * B .m → cell (sealedSheet B) (length (B .bids) + k) < modulus
     capacity-below k l =
-        let a : k / B .m < B .m = div-lt-iff-lt-mul (sound .pools-positive) .1 l in
-        let b : k % B .m < B .m = mod-lt k (sound .pools-positive) in
-        let e : k / B .m * B .m + k % B .m ≡ k = div-add-mod' k (B .m) in
+        let found = row-column (B .m) k l in
         let h : natAbs (getD (B .capacities) k (pos 0)) ≤ greatestPositive
-        = rw e at (let z : natAbs (capacityEntry B (k / B .m) (k % B .m)) ≤ greatestPositive = omega (arith, sound .capacity-small (k / B .m) (k % B .m) a b) in z) in
+        = rw (found .place) at (let z : natAbs (capacityEntry B (k / B .m) (k % B .m)) ≤ greatestPositive = omega (arith, sound .capacity-small (k / B .m) (k % B .m) (found .row) (found .column)) in z) in
         omega (arith, sealed-capacity k (omega (arith, sound .capacity-table)), residue-below (getD (B .capacities) k (pos 0)) h)
 
     every-below : (c : ℕ) → cell (sealedSheet B) c < modulus

@@ -53,13 +53,6 @@ pub or-cases : (s t : Bool) → (s || t) ≡ true → (s ≡ true) ⊎ (t ≡ tr
 or-cases true t e = inl refl
 or-cases false t e = inr e
 
-pub or-left : (s t : Bool) → s ≡ true → (s || t) ≡ true
-or-left s t e = rw e refl
-
-pub or-right : (s t : Bool) → t ≡ true → (s || t) ≡ true
-or-right true t e = refl
-or-right false t e = e
-
 pub and-both : (s t : Bool) → (s && t) ≡ true → (s ≡ true) × (t ≡ true)
 and-both true t e = (refl, e)
 and-both false t e = absurd (true≢false (sym e))

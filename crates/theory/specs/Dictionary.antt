@@ -12,7 +12,8 @@ use borrow.Author.Tests.{ltb-true, eqb-true, eq-eqb, lt-ltb, le-ltb}
 use Rattle.definitions.specs.Book.{Book}
 use Rattle.definitions.specs.Clearing.{before, NoGreater, equal, less}
 use Rattle.laws.specs.AcceptedBook.{Sound}
-use Rattle.theory.specs.Choices.{or-cases, or-left, or-right, and-both, and-made}
+use Rattle.laws.specs.Tests.{or-left, or-right}
+use Rattle.theory.specs.Choices.{or-cases, and-both, and-made}
 use Rattle.theory.specs.StrictOrder.{StrictTotal, FirstDifference, first-difference, not-both-less}
 use Rattle.theory.specs.Network.{SoundNetwork}
 use Rattle.theory.specs.BookNetwork.{networkOf, byLines, byPools, by-pools-lines, network-sound, before-strict-total}

@@ -4,9 +4,10 @@ use mathlib.Core.Bool.{Bool}
 use Prim.Native.Nat.{ℕ, zero, suc, _+_, _*_, _<_, _/_, _%_}
 use native.Mathlib.Omega.{arith}
 use lib.Dec.{eqb}
-use native.Mathlib.Nat.{suc-mul, mod-lt, div-lt-iff-lt-mul, add-zero, add-suc, zero-mul}
+use native.Mathlib.Nat.{suc-mul, add-zero, add-suc, zero-mul}
 use lib.Arith.{digits-div, digits-mod, digits-lt}
 use Rattle.definitions.specs.Arithmetic.{on, sumTo}
+use Rattle.laws.specs.Rows.{row-column}
 use Rattle.laws.specs.Sum.{sum-ext, sum-one}
 use Rattle.theory.specs.Network.{Network, SoundNetwork}
 use Rattle.theory.specs.Balance.{only, arriving, departing}
@@ -18,15 +19,11 @@ use Rattle.theory.specs.Choices.{on-sum}
 abbrev pub grid : (n m : ℕ) (size pool : ℕ → ℕ) (purchase : ℕ → Bool) (capacity : ℕ → ℕ) → Network
 grid n m size pool purchase capacity = record { bids = n; pools = m; lines = m * m; size = size; pool = pool; purchase = purchase; source = λ k. k / m; target = λ k. k % m; capacity = capacity }
 
-pos-of : (m k : ℕ) → k < m * m → 0 < m
-pos-of zero k l = absurd (omega (arith, zero-mul 0))
-pos-of (suc m) k l = omega arith
-
 pub grid-sound : (n m : ℕ) (size pool : ℕ → ℕ) (purchase : ℕ → Bool) (capacity : ℕ → ℕ) → ((i : ℕ) → i < n → pool i < m) → SoundNetwork (grid n m size pool purchase capacity)
 grid-sound n m size pool purchase capacity h = record {
   pool-below = h;
-  source-below = λ k l. div-lt-iff-lt-mul (pos-of m k l) .1 l;
-  target-below = λ k l. mod-lt k (pos-of m k l);
+  source-below = λ k l. row-column m k l .row;
+  target-below = λ k l. row-column m k l .column;
 }
 
 -- sums by rows

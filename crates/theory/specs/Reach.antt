@@ -9,10 +9,10 @@ use lib.Dec.{eqb, ltb}
 use borrow.Author.Tests.{ltb-true, eqb-true, eq-eqb}
 use Rattle.definitions.specs.Arithmetic.{on, sumTo}
 use Rattle.laws.specs.Sum.{sum-le, sum-zero, sum-le-at}
-use Rattle.laws.specs.Tests.{Lt?, less, more, lt?}
+use Rattle.laws.specs.Tests.{Lt?, less, more, lt?, or-left}
 use Rattle.theory.specs.Network.{goesOut, comesIn, Network, SoundNetwork, leaving, entering, cut, amountIn, _adding_}
 use Rattle.theory.specs.Balance.{only, FeasibleUse, cut-balance}
-use Rattle.theory.specs.Choices.{search, on-monotone, is-true, or-cases, or-left, and-both}
+use Rattle.theory.specs.Choices.{search, on-monotone, is-true, or-cases, and-both}
 
 -- pool q reaches another: itself, along a line that is not full, back along one that carries something
 pub data Reach (N : Network) (f : ℕ → ℕ) (q : ℕ) : ℕ → Type 0 where

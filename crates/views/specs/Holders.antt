@@ -12,7 +12,7 @@ use borrow.Author.Tests.{eq-eqb, ne-eqb}
 use Rattle.definitions.specs.Answers.{none}
 use Rattle.definitions.specs.Calls.{resultsRefusal, resultAt}
 use Rattle.definitions.specs.Views.{isAmong, viewOf, viewRefusal, viewSlice, Distinct, OneEach, sumOver}
-use Rattle.laws.specs.Tests.{Eq?, same, diff, eq?}
+use Rattle.laws.specs.Tests.{Eq?, same, diff, eq?, or-right}
 use Rattle.views.specs.Places.{shown-bid, view-at}
 
 -- ---- the sum
@@ -45,11 +45,7 @@ entry-among : (table : List ℕ) (i : ℕ) → i < length table → isAmong (get
 unfolding isAmong
 entry-among [] i l = absurd (omega arith)
 entry-among (h ∷ table) zero l = rw (eq-eqb h h refl) refl
-entry-among (h ∷ table) (suc i) l = or-right (eqb h (getD table i 0)) (entry-among table i (omega arith))
-  where
-    or-right : (s : Bool) {t : Bool} → t ≡ true → (s || t) ≡ true
-    or-right true e = refl
-    or-right false e = e
+entry-among (h ∷ table) (suc i) l = or-right (eqb h (getD table i 0)) _ (entry-among table i (omega arith))
 
 pub views-add-up : (table : List ℕ) (results : List ℤ) (holders : List ℕ) → OneEach table holders → (i : ℕ) → i < length table
     → sumOver holders (λ h. resultAt (viewOf table h results) i) ≡ resultAt results i

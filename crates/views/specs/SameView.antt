@@ -1,10 +1,9 @@
 -- "Two opened clearings under one holder table give a holder the same view exactly if they agree on those shown numbers" (`same-view`).
-use Prim.Native.Nat.{ℕ, zero, suc, _+_, _-_, _*_, _/_, _%_, _<_}
+use Prim.Native.Nat.{ℕ, _+_, _-_, _*_, _/_, _%_, _<_}
 use mathlib.Core.Path.{_≡_, refl, sym, ap, _∙_, subst}
 use mathlib.Core.Bool.{Bool, true, false, cond}
 use mathlib.Core.List.{List}
 use native.Mathlib.Omega.{arith}
-use native.Mathlib.Nat.{mod-lt, div-lt-iff-lt-mul, div-add-mod'}
 use lib.Arith.{digits-lt}
 use lib.ListN.{length}
 use lib.Seq.{ext-getD}
@@ -14,6 +13,7 @@ use Rattle.definitions.specs.Limits.{poolResults}
 use Rattle.definitions.specs.Sheet.{resultCount}
 use Rattle.definitions.specs.Calls.{resultAt, flowPlace, poolPlace}
 use Rattle.definitions.specs.Views.{viewOf, Agree}
+use Rattle.laws.specs.Rows.{row-column}
 use Rattle.laws.specs.Tests.{Lt?, less, more, lt?}
 use Rattle.views.specs.Places.{shown, shown-bid, shown-behind, view-length, view-at, view-shows}
 
@@ -38,10 +38,6 @@ same-view-shown table holder r s lengths = (
 
 -- ---- number by number, for the results of n bids and m pools: the places shown are those of the holder's amounts, all flows and all prices
 
-some-pool : (m k : ℕ) → k < m * m → 0 < m
-some-pool zero k l = absurd (omega arith)
-some-pool (suc m) k l = omega arith
-
 module _ (n m : ℕ) (table : List ℕ) (holder : ℕ) (r s : List ℤ) (bids : length table ≡ n) (count : length r ≡ resultCount n m) where
   to-numbers : AgreeShown table holder r s → Agree n m table holder r s
   to-numbers h = record {
@@ -57,10 +53,9 @@ module _ (n m : ℕ) (table : List ℕ) (holder : ℕ) (r s : List ℤ) (bids : 
       go (less i) _ = h .amounts k i (eqb-true _ _ (sym (shown-bid table holder k (omega arith)) ∙ q))
       go (more i) (less j) =
           let line : ℕ = k - n in
-          let within : line < m * m = omega arith in
-          let positive : 0 < m = some-pool m line within in
-          let e : flowPlace n m (line / m) (line % m) ≡ k = omega (arith, div-add-mod' line m) in
-          subst (λ (x : ℕ). resultAt r x ≡ resultAt s x) e (h .flows (line / m) (line % m) (div-lt-iff-lt-mul positive .1 within) (mod-lt line positive))
+          let found = row-column m line (omega arith) in
+          let e : flowPlace n m (line / m) (line % m) ≡ k = omega (arith, found .place) in
+          subst (λ (x : ℕ). resultAt r x ≡ resultAt s x) e (h .flows (line / m) (line % m) (found .row) (found .column))
       go (more i) (more j) =
           let place : ℕ = k - (n + m * m) in
           let e : poolPlace n m (place / poolResults) + place % poolResults ≡ k = omega arith in
