@@ -2,7 +2,7 @@
 // What each case means is defined in specs/, in the words and numbers of the documents.
 
 // The limits of the unit, together.
-#[derive(Drop)]
+#[derive(Clone, Copy)]
 pub struct Limits {}
 
 impl Limits {
@@ -36,7 +36,7 @@ impl Limits {
 }
 
 // An order of the machine: its target cell d, then a constant or the two cells that it reads.
-#[derive(Drop)]
+#[derive(Clone, Copy)]
 pub enum Order {
     Constant { d: usize, k: u32 },
     Sum { d: usize, a: usize, b: usize },
@@ -47,7 +47,7 @@ pub enum Order {
 }
 
 // What a call says of its input: accepted, or why it is refused, with the place where there is one.
-#[derive(Drop)]
+#[derive(Clone, Copy)]
 pub enum Verdict {
     Accepted,
     BidCount,
@@ -69,7 +69,7 @@ pub enum Verdict {
 }
 
 // An order by its numbers: its kind, its target, its constant, and the two cells that it reads; 0 where it has none.
-#[derive(Drop)]
+#[derive(Clone, Copy)]
 pub struct Parts {
     pub kind: u32,
     pub d: usize,
