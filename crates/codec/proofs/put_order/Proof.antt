@@ -14,21 +14,21 @@ use Rattle.codec.proofs.put_order.Statement.{statement}
 use Rattle.codec.proofs.put_order.Tie as tie
 
 -- the order's bytes by its numbers: for any kind, for kind 0, for kinds 1 to 5
-whole : (c : tie.After-parts-of) → order_bytes c.before.before.args.order ≡ parts_bytes c.parts-of.result
-whole c = bytes_parts c.before.before.args.order ∙ ap parts_bytes (sym c.parts-of.ensures)
+whole : (c : tie.After-parts_of-p) → order_bytes c.before.before.args.order ≡ parts_bytes c.parts_of-p.result
+whole c = bytes_parts c.before.before.args.order ∙ ap parts_bytes (sym c.parts_of-p.ensures)
 
-constant_is : (c : tie.Then1) → let q = c.before.before.before.before.before.before.before in
-    order_bytes q.before.before.args.order ≡ head_bytes q.parts-of.result ++ number_bytes q.parts-of.result.k
-constant_is c = whole c.before.before.before.before.before.before.before ∙ simp (eq-eqb _ _ c.if1.true)
+constant_is : (c : tie.Then-p-eq0) → let q = c.before.before.before.before.before.before.before in
+    order_bytes q.before.before.args.order ≡ head_bytes q.parts_of-p.result ++ number_bytes q.parts_of-p.result.k
+constant_is c = whole c.before.before.before.before.before.before.before ∙ simp (eq-eqb _ _ c.if-p-eq0.true)
 
-cells_are : (c : tie.Else1) → let q = c.before.before.before.before.before.before.before in
-    order_bytes q.before.before.args.order ≡ head_bytes q.parts-of.result ++ (number_bytes q.parts-of.result.a ++ number_bytes q.parts-of.result.b)
-cells_are c = whole c.before.before.before.before.before.before.before ∙ simp (ne_eqb _ _ c.if1.false)
+cells_are : (c : tie.Else-p-eq0) → let q = c.before.before.before.before.before.before.before in
+    order_bytes q.before.before.args.order ≡ head_bytes q.parts_of-p.result ++ (number_bytes q.parts_of-p.result.a ++ number_bytes q.parts_of-p.result.b)
+cells_are c = whole c.before.before.before.before.before.before.before ∙ simp (ne_eqb _ _ c.if-p-eq0.false)
 
-put_two_requires : tie.Need-put-two-requires
+put_two_requires : tie.Need-put_two-next-requires
 put_two_requires c κs =
     let q = c.before.before in
-    let p = q.parts-of.result in
+    let p = q.parts_of-p.result in
     omega (
       arith,
       ap length (whole q),
@@ -36,48 +36,48 @@ put_two_requires c κs =
       q.before.before.requires,
     )
 
-put_number_requires : tie.Need-put-number-requires
+put_number_requires : tie.Need-put_number-requires
 put_number_requires c κs =
     let two = c.before.before.before.before.before.before in
     let q = two.before.before.before in
     let s = q.before.before in
-    let p = q.parts-of.result in
+    let p = q.parts_of-p.result in
     let h : s.args.at + length (head_bytes p ++ number_bytes p.k) ≤ length s.args.out.now = omega (arith, ap length (constant_is c.before.before), s.requires) in
-    second_room s.args.at two.put_two.result (head_bytes p) (number_bytes p.k) s.args.out.now two.put_two.new.0 h two.put_two.ensures.0 two.put_two.auto.0
+    second_room s.args.at two.put_two-next.result (head_bytes p) (number_bytes p.k) s.args.out.now two.put_two-next.new.0 h two.put_two-next.ensures.0 two.put_two-next.auto.0
 
-returns : tie.Need-returns
+returns : tie.Need-returns-then-p-eq0
 returns c =
     let constant = c.before.before.before.before.before in
     let two = constant.before.before.before.before in
     let q = two.before.before.before in
     let a = q.before.before.args in
-    let p = q.parts-of.result in
-    let one = c.before.before.put-number in
+    let p = q.parts_of-p.result in
+    let one = c.before.before.put_number in
     rw (constant_is constant)
-    (both a.out.now two.put_two.new.0 one.new.0 a.at two.put_two.result one.result (head_bytes p) (number_bytes p.k)
-    two.put_two.ensures.0 two.put_two.ensures.1 one.ensures.0 one.ensures.1)
+    (both a.out.now two.put_two-next.new.0 one.new.0 a.at two.put_two-next.result one.result (head_bytes p) (number_bytes p.k)
+    two.put_two-next.ensures.0 two.put_two-next.ensures.1 one.ensures.0 one.ensures.1)
 
-put_two_requires_2 : tie.Need-put-two-requires-2
+put_two_requires_2 : tie.Need-put_two-requires
 put_two_requires_2 c κs =
     let two = c.before.before.before.before.before in
     let q = two.before.before.before in
     let s = q.before.before in
-    let p = q.parts-of.result in
+    let p = q.parts_of-p.result in
     let h : s.args.at + length (head_bytes p ++ (number_bytes p.a ++ number_bytes p.b)) ≤ length s.args.out.now = omega (arith, ap length (cells_are c.before), s.requires) in
-    second_room s.args.at two.put_two.result (head_bytes p) (number_bytes p.a ++ number_bytes p.b) s.args.out.now
-    two.put_two.new.0 h two.put_two.ensures.0 two.put_two.auto.0
+    second_room s.args.at two.put_two-next.result (head_bytes p) (number_bytes p.a ++ number_bytes p.b) s.args.out.now
+    two.put_two-next.new.0 h two.put_two-next.ensures.0 two.put_two-next.auto.0
 
-returns_2 : tie.Need-returns-2
+returns_2 : tie.Need-returns
 returns_2 c =
     let cells = c.before.before.before.before in
     let two = cells.before.before.before.before in
     let q = two.before.before.before in
     let a = q.before.before.args in
-    let p = q.parts-of.result in
-    let later = c.before.before.put-two2 in
+    let p = q.parts_of-p.result in
+    let later = c.before.before.put_two in
     rw (cells_are cells)
-    (both a.out.now two.put_two.new.0 later.new.0 a.at two.put_two.result later.result (head_bytes p) (number_bytes p.a ++ number_bytes p.b)
-    two.put_two.ensures.0 two.put_two.ensures.1 later.ensures.0 later.ensures.1)
+    (both a.out.now two.put_two-next.new.0 later.new.0 a.at two.put_two-next.result later.result (head_bytes p) (number_bytes p.a ++ number_bytes p.b)
+    two.put_two-next.ensures.0 two.put_two-next.ensures.1 later.ensures.0 later.ensures.1)
 
 pub put_order_spec : {M : Type 1} → statement M
 put_order_spec =

@@ -12,32 +12,32 @@ use Rattle.codec.proofs.read_number.Statement.{statement}
 use Rattle.codec.proofs.read_number.Tie as tie
 
 -- what was read
-read_there : (c : tie.After-known-told) → let a = c.before.before.before.before.before.args in
-    read_groups most_groups true (drop a.at a.bytes.now) ≡ number c.before.v.given.0.0 c.before.v.given.0.1.0
-read_there c = sym c.before.before.before.read-groups.ensures ∙ ap groups_answer c.before.v.given.1
+read_there : (c : tie.In-Number) → let a = c.before.before.before.before.before.args in
+    read_groups most_groups true (drop a.at a.bytes.now) ≡ number c.before.v-1.given.0.0 c.before.v-1.given.0.1.0
+read_there c = sym c.before.before.before.read_groups.ensures ∙ ap groups_answer c.before.v-1.given.1
 
-add_t12 : tie.Need-overflow-add-t12
+add_t12 : tie.Need-overflow_add-result
 add_t12 c =
     let s = c.before.before.before.before.before.before in
     let a = s.args in
     let r = only_shortest_groups most_groups true (drop a.at a.bytes.now) _ _ (read_there c.before) in
-    omega (arith, r.inside, length-drop a.at a.bytes.now, s.ranges.at, s.well_formed_lem)
+    omega (arith, r.inside, length-drop a.at a.bytes.now, s.ranges.at, s.well_formed)
 
-returns : tie.Need-returns
+returns : tie.Need-returns-in-Short
 unfolding number_at
-returns c = rw (sym c.before.before.read-groups.ensures ∙ ap groups_answer c.enum_told.given.1) refl
+returns c = rw (sym c.before.before.read_groups.ensures ∙ ap groups_answer c.enum_told-1.given.1) refl
 
-returns_2 : tie.Need-returns-2
+returns_2 : tie.Need-returns-in-Bad
 unfolding number_at
-returns_2 c = rw (sym c.before.before.read-groups.ensures ∙ ap groups_answer c.enum-told2.given.1) refl
+returns_2 c = rw (sym c.before.before.read_groups.ensures ∙ ap groups_answer c.enum_told-in-Bad-1.given.1) refl
 
-returns_3 : tie.Need-returns-3
+returns_3 : tie.Need-returns-then-v-lt-NUMBER_LIMIT
 unfolding number_at
-returns_3 c = rw (read_there c.before) (simp (lt-ltb c.before.before.v.given.0.0 number_limit (omega (arith, c.if1.true))))
+returns_3 c = rw (read_there c.before) (simp (lt-ltb c.before.before.v-1.given.0.0 number_limit (omega (arith, c.if-v-lt-NUMBER_LIMIT.true))))
 
-returns_4 : tie.Need-returns-4
+returns_4 : tie.Need-returns-else-v-lt-NUMBER_LIMIT
 unfolding number_at
-returns_4 c = rw (read_there c.before) (simp (le-ltb c.before.before.v.given.0.0 number_limit (omega (arith, c.if1.false))))
+returns_4 c = rw (read_there c.before) (simp (le-ltb c.before.before.v-1.given.0.0 number_limit (omega (arith, c.if-v-lt-NUMBER_LIMIT.false))))
 
 pub read_number_spec : {M : Type 1} → statement M
 read_number_spec =

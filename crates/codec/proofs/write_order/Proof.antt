@@ -10,23 +10,23 @@ use borrow.Author.Rules.{rules}
 use Rattle.codec.proofs.write_order.Statement.{statement}
 use Rattle.codec.proofs.write_order.Tie as tie
 
-returns : tie.Need-returns
+returns : tie.Need-returns-then-out-at
 returns c =
     let a = c.before.before.args in
-    let h : length a.out.now < a.at + length (order_bytes a.order) = omega (arith, c.if1.true) in
+    let h : length a.out.now < a.at + length (order_bytes a.order) = omega (arith, c.if-out-at.true) in
     (sym (size_without_room a.out.now a.at a.order h), sym (bytes_without_room a.out.now a.at a.order h))
 
-returns_2 : tie.Need-returns-2
+returns_2 : tie.Need-returns-then-out-at-2
 returns_2 c =
     let a = c.before.before.before.before.args in
-    let h : length a.out.now < a.at + length (order_bytes a.order) = omega (arith, c.if2.true, c.before.order-size.ensures) in
+    let h : length a.out.now < a.at + length (order_bytes a.order) = omega (arith, c.if-out-at-2.true, c.before.order_size-size.ensures) in
     (sym (size_without_room a.out.now a.at a.order h), sym (bytes_without_room a.out.now a.at a.order h))
 
-returns_3 : tie.Need-returns-3
+returns_3 : tie.Need-returns
 returns_3 c =
     let a = c.before.before.before.before.before.before.before.before.args in
-    let size = c.before.before.before.before.before.order-size in
-    let h : a.at + length (order_bytes a.order) ≤ length a.out.now = omega (arith, c.before.before.before.before.if2.false, size.ensures, c.before.before.before.before.before.before.if1.false) in (
+    let size = c.before.before.before.before.before.order_size-size in
+    let h : a.at + length (order_bytes a.order) ≤ length a.out.now = omega (arith, c.before.before.before.before.if-out-at-2.false, size.ensures, c.before.before.before.before.before.before.if-out-at.false) in (
       size.ensures ∙ sym (size_with_room a.out.now a.at a.order h),
       c.before.before.put_order.ensures.1 ∙ sets-eq (order_bytes a.order) a.out.now a.at h ∙ sym (bytes_with_room a.out.now a.at a.order h),
     )

@@ -1,0 +1,5 @@
+-- each call has one group less
+use Rattle.codec.proofs.+put_groups.Given as goal
+
+abbrev pub decreases-put_groups : goal.decreases-put_groups
+decreases-put_groups l = l.g

@@ -1,0 +1,5 @@
+-- each call has one group less
+use Rattle.codec.proofs.+read_groups.Given as goal
+
+abbrev pub decreases-read_groups : goal.decreases-read_groups
+decreases-read_groups l = l.g

@@ -1,0 +1,47 @@
+-- Invariant: the answer is that of the cells from c on. Measure: how many they are.
+use Prim.Native.Nat.{ℕ, ◌-◌, ◌<◌, ◌≤◌}
+use mathlib.Core.Path.{◌≡◌, sym, ap, ◌∙◌}
+use mathlib.Core.Bool.{cond}
+use mathlib.Core.List.{List}
+use native.Mathlib.Omega.{arith}
+use lib.Dec.{ltb}
+use lib.ListN.{length}
+use borrow.Author.Tests.{lt-ltb, le-ltb}
+use Rattle.definitions.specs.Limits.{modulus}
+use Rattle.definitions.specs.Answers.{Refusal, none, refuse, is_none}
+use Rattle.definitions.specs.Machine.{cell}
+use Rattle.definitions.specs.Calls.{cells_refusal}
+use Rattle.laws.specs.Search.{search_begins, search_passes, search_stops, search_ends}
+use Rattle.judging.proofs.judge_cells.Goals as goal
+
+abbrev cell_at : List ℕ → ℕ → Refusal
+cell_at sheet c = cond (ltb (cell sheet c) modulus) none (refuse 15 c)
+
+-- what the test says of a cell
+cell_refused : (sheet : List ℕ) (c : ℕ) → modulus ≤ cell sheet c → cell_at sheet c ≡ refuse 15 c
+cell_refused sheet c h = simp (le-ltb _ _ h)
+
+cell_passed : (sheet : List ℕ) (c : ℕ) → cell sheet c < modulus → cell_at sheet c ≡ none
+cell_passed sheet c h = simp (lt-ltb _ _ h)
+
+pub loop-c-init : goal.loop-c-init
+unfolding cells_refusal
+loop-c-init c = let sheet = c.args.sheet.now in (omega arith, search_begins (length sheet) (cell_at sheet))
+
+pub returns-then-sheet-c-ge-MODULUS : goal.returns-then-sheet-c-ge-MODULUS
+returns-then-sheet-c-ge-MODULUS c =
+    let l = c.loop-c in
+    let sheet = c.args.sheet.now in
+    let e = cell_refused sheet l.c c.if-sheet-c-ge-MODULUS.true in
+    sym (l.invariant.1 ∙ search_stops (length sheet) (cell_at sheet) l.c c.loop-c-test.true (ap is_none e) ∙ e)
+
+pub loop-c-preserved : goal.loop-c-preserved
+loop-c-preserved c =
+    let l = c.loop-c in
+    let sheet = c.args.sheet.now in
+    (omega arith, l.invariant.1 ∙ search_passes (length sheet) (cell_at sheet) l.c c.loop-c-test.true (cell_passed sheet l.c c.if-sheet-c-ge-MODULUS.false))
+
+pub returns : goal.returns
+returns c =
+    let sheet = c.args.sheet.now in
+    sym (c.loop-c.invariant.1 ∙ search_ends (length sheet) (cell_at sheet) c.loop-c.c c.loop-c-test.false)

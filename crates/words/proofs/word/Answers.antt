@@ -1,0 +1,14 @@
+-- `word` meets its contract: within the whole words its four bytes are there, behind them it is 0.
+use mathlib.Core.Path.{sym}
+use Rattle.words.proofs.Positions.{word_behind, word_within}
+use Rattle.words.proofs.word.Goals as goal
+
+pub returns-then-input-k : goal.returns-then-input-k
+returns-then-input-k c = sym (word_behind _ _ c.if-input-k.true)
+
+pub returns : goal.returns
+returns c =
+    let third = c.before.before in
+    let second = third.before.before in
+    let first = second.before.before in
+    word_within _ _ _ _ _ _ first.if-input-k.false first.digit-first.ensures.0 second.digit-second.ensures.0 third.digit-third.ensures.0 c.digit-fourth.ensures.0
