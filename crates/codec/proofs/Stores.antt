@@ -4,6 +4,7 @@ use mathlib.Core.Path.{◌≡◌, sym, ap, ◌∙◌}
 use mathlib.Core.Bool.{cond}
 use mathlib.Core.List.{List, [], ◌∷◌, ◌++◌, append-nil, append_assoc}
 use native.Mathlib.Omega.{arith}
+use borrow.Author.Tests.{eq-eqb, ne_eqb}
 use lib.Dec.{eqb}
 use lib.ListN.{length, length-append}
 use lib.Seq.{sets}
@@ -51,3 +52,13 @@ bytes_parts (Difference d a b) = cells 2 d a b
 bytes_parts (Product d a b) = cells 3 d a b
 bytes_parts (Less d a b) = cells 4 d a b
 bytes_parts (Equal d a b) = cells 5 d a b
+
+-- the order whose numbers those are: for any kind, for kind 0, for kinds 1 to 5
+pub whole_bytes : (o : Order) (p : Parts) → p ≡ parts_of o → order_bytes o ≡ parts_bytes p
+whole_bytes o p e = bytes_parts o ∙ ap parts_bytes (sym e)
+
+pub constant_bytes : (o : Order) (p : Parts) → p ≡ parts_of o → p.kind ≡ 0 → order_bytes o ≡ head_bytes p ++ number_bytes p.k
+constant_bytes o p e h = whole_bytes o p e ∙ simp (eq-eqb _ _ h)
+
+pub cells_bytes : (o : Order) (p : Parts) → p ≡ parts_of o → (p.kind ≡ 0 → ⊥) → order_bytes o ≡ head_bytes p ++ (number_bytes p.a ++ number_bytes p.b)
+cells_bytes o p e h = whole_bytes o p e ∙ simp (ne_eqb _ _ h)
