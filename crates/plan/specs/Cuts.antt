@@ -11,7 +11,7 @@ use Rattle.theory.specs.ClosedBest.{demand_small, cut_small}
 use Rattle.plan.specs.Orders.{constant, sum, run, State}
 use Rattle.plan.specs.Residues.{plus_small, times_on}
 use Rattle.plan.specs.Loops.{loop, among, writes, writes_loop, keep, eqb_same}
-use Rattle.plan.specs.Holds.{Holds, Phase, holds_keep, holds_part, fill_column, fill_after}
+use Rattle.plan.specs.Holds.{Holds, Phase, holds_keep, holds_part, touches, fill_column, fill_after}
 use Rattle.plan.specs.Names.{Name, Capacities, ZeroCells, Sides, PoolSizes, Demands, Subsets, Cuts, Temporaries, ZeroCell, Demand, Subset, Cut, Capacity}
 use Rattle.plan.specs.Subsets.{leaves, subset_sum}
 use Rattle.plan.specs.Running.{Adds, accumulate, gather, subset_block, subset_frame, subset_sums}
@@ -26,7 +26,7 @@ chosen t true c v e f = f
 chosen t false c v e f = e
 
 pub subsets_frame : (n m : ℕ) (X : ℕ → Name) → writes (among (Subsets ∷ [])) (subset_blocks n m X) ≡ true
-subsets_frame n m X = writes_loop _ (2 ^ m) (subset_block m X) (λ S _. subset_frame m X S)
+subsets_frame n m X = writes_loop (among (Subsets ∷ [])) (2 ^ m) (subset_block m X) (λ S _. subset_frame m X S)
 
 module _ (B : Book) (sound : Sound B) where
   -- what a demand reads
@@ -48,7 +48,7 @@ module _ (B : Book) (sound : Sound B) where
 
   pub demand_phase_lem : Phase (cell_tables B) (Sides ∷ PoolSizes ∷ []) Demands (Temporaries ∷ []) (loop B.m (demand_block B.n B.m))
   demand_phase_lem = fill_column (cell_tables B) (Sides ∷ PoolSizes ∷ []) Demands (Temporaries ∷ []) refl refl refl (demand_block B.n B.m)
-      (λ p. rw (eqb_same p) (writes_loop _ B.n (demand_turn p) (λ i _. rw (eqb_same p)))) demand_value
+      (λ p. rw (eqb_same p) (writes_loop (touches Demands p (Temporaries ∷ [])) B.n (demand_turn p) (λ i _. rw (eqb_same p)))) demand_value
 
   -- what a cut reads of the lines
   abbrev Lines : State → Type 0
@@ -78,13 +78,13 @@ module _ (B : Book) (sound : Sound B) where
       r ∙ ap (λ (v : ℕ). v + sum_to B.m (λ a. sum_to B.m (λ b. on (leaves S a b) (capacity B a b)))) e
 
   cut_frame : (S : ℕ) → writes (among (Cuts ∷ [])) (cut_block B.n B.m S) ≡ true
-  cut_frame S = writes_loop _ B.m _ (λ a _. writes_loop _ B.m _ (λ b _. refl))
+  cut_frame S = writes_loop (among (Cuts ∷ [])) B.m (λ a. loop B.m (cut_turn S a)) (λ a _. writes_loop (among (Cuts ∷ [])) B.m (cut_turn S a) (λ b _. refl))
 
   pub cut_phase_lem : Phase (cell_tables B) (Demands ∷ Capacities ∷ ZeroCells ∷ []) Cuts (Subsets ∷ []) (subset_blocks B.n B.m Demand ++ loop (2 ^ B.m) (cut_block B.n B.m))
   cut_phase_lem =
       fill_after (cell_tables B) (Demands ∷ Capacities ∷ ZeroCells ∷ []) Cuts (Subsets ∷ []) refl refl (subset_blocks B.n B.m Demand)
       (cut_block B.n B.m) Summed (subsets_frame B.n B.m Demand)
-      (λ S. rw (eqb_same S) (writes_loop _ B.m _ (λ a _. writes_loop _ B.m _ (λ b _. rw (eqb_same S)))))
+      (λ S. rw (eqb_same S) (writes_loop (touches Cuts S (Subsets ∷ [])) B.m (λ a. loop B.m (cut_turn S a)) (λ a _. writes_loop (touches Cuts S (Subsets ∷ [])) B.m (cut_turn S a) (λ b _. rw (eqb_same S)))))
       (λ s h. (
         holds_keep (cell_tables B) (Subsets ∷ []) (Capacities ∷ ZeroCells ∷ []) refl (subset_blocks B.n B.m Demand) (subsets_frame B.n B.m Demand) s
             (holds_part (cell_tables B) (Demands ∷ Capacities ∷ ZeroCells ∷ []) (Capacities ∷ ZeroCells ∷ []) refl s h),

@@ -155,7 +155,7 @@ module _ (T : Tables) (reads : List Family) (u : Family) (ws : List Family) (cle
         ∙ loop_only (T.rows u) f (at u i j) (run first s) i a (λ k t _ ne. keep (touches u k ws) (f k) (at u i j) t (touch k) (rw (new, eqb_same (number u), ne_eqb k i ne)))
         ∙ value i j (run (loop i f) (run first s)) a b (loop_invariant (λ k t. J t) i f (run first s) (start s h) (λ k t l. stays k t (omega arith)));
     frame = writes_append (among (u ∷ ws)) first (loop (T.rows u) f) (writes_more (among ws) (among (u ∷ ws)) (λ c. more (eqb (number u) (number (family c))) (among ws c)) first begins)
-        (writes_loop _ (T.rows u) f (λ k _. touches_family u ws k (f k) (touch k)));
+        (writes_loop (among (u ∷ ws)) (T.rows u) f (λ k _. touches_family u ws k (f k) (touch k)));
   }
     where
       more : (x y : Bool) → y ≡ true → x || y ≡ true
@@ -174,12 +174,12 @@ module _ (T : Tables) (reads : List Family) (u : Family) (ws : List Family) (cle
       → ((i j : ℕ) (t : State) → i < T.rows u → j < T.columns u → Holds T reads t → run (g i j) t (at u i j) ≡ T.value u i j)
       → Phase T reads u ws (loop (T.rows u) (λ i. loop (T.columns u) (g i)))
   fill_cells g touch value =
-      fill_rows (λ i. loop (T.columns u) (g i)) (λ i. writes_loop _ (T.columns u) (g i) (λ j _. touches_row u i j ws (g i j) (touch i j)))
+      fill_rows (λ i. loop (T.columns u) (g i)) (λ i. writes_loop (touches u i ws) (T.columns u) (g i) (λ j _. touches_row u i j ws (g i j) (touch i j)))
       (λ i j t a b h.
       loop_only (T.columns u) (g i) (at u i j) t j b
       (λ k r _ ne. keep (touches_cell u i k ws) (g i k) (at u i j) r (touch i k) (rw (new, eqb_same (number u), eqb_same i, ne_eqb k j ne)))
       ∙ value i j (run (loop j (g i)) t) a b
-      (holds_keep T (u ∷ ws) reads clear (loop j (g i)) (writes_loop _ j (g i) (λ k _. touches_family u ws i (g i k) (touches_row u i k ws (g i k) (touch i k)))) t h))
+      (holds_keep T (u ∷ ws) reads clear (loop j (g i)) (writes_loop (among (u ∷ ws)) j (g i) (λ k _. touches_family u ws i (g i k) (touches_row u i k ws (g i k) (touch i k)))) t h))
 
   -- the family is one column
   pub fill_column : T.columns u ≡ 1 → (f : ℕ → List (OrderOn Name)) → ((i : ℕ) → writes (touches u i ws) (f i) ≡ true)

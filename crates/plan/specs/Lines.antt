@@ -16,7 +16,7 @@ use Rattle.theory.specs.ClosedBest.{size_total, amount_limit, placement_small, p
 use Rattle.plan.specs.Orders.{constant, sum, difference, run, State}
 use Rattle.plan.specs.Residues.{plus_small, minus_small, times_on, min_small}
 use Rattle.plan.specs.Loops.{loop, named_run_append, loop_invariant, among, writes, writes_append, writes_loop, keep, keep_loop, eqb_same, loop_own}
-use Rattle.plan.specs.Holds.{Holds, Phase, holds_keep, holds_part, fill_column, fill_after}
+use Rattle.plan.specs.Holds.{Holds, Phase, holds_keep, holds_part, touches, fill_column, fill_after}
 use Rattle.plan.specs.Names.{Family, Name, same, Capacities, ZeroCells, Memberships, Subsets, Cuts, Uses, Placements, Slacks, Flows, Temporaries, ZeroCell, Temporary, Capacity, Flow, Subset, Placement, Slack}
 use Rattle.plan.specs.Subsets.{leaves, subset_sum}
 use Rattle.plan.specs.Running.{accumulate, gather, Lowers, lower, lowered, subset_sums}
@@ -59,7 +59,7 @@ module _ (B : Book) (sound : Sound B) where
 
   pub placement_phase_lem : Phase (cell_tables B) (Memberships ∷ Uses ∷ []) Placements (Temporaries ∷ []) (loop B.m (placement_block B.n B.m))
   placement_phase_lem = fill_column (cell_tables B) (Memberships ∷ Uses ∷ []) Placements (Temporaries ∷ []) refl refl refl (placement_block B.n B.m)
-      (λ p. rw (eqb_same p) (writes_loop _ B.n (placement_turn p) (λ i _. rw (eqb_same p)))) placement_value
+      (λ p. rw (eqb_same p) (writes_loop (touches Placements p (Temporaries ∷ [])) B.n (placement_turn p) (λ i _. rw (eqb_same p)))) placement_value
 
   -- ---- the slacks before the first line
 
@@ -141,7 +141,7 @@ module _ (B : Book) (sound : Sound B) where
         taken false false = kept ZeroCell refl ∙ g.0 ZeroCells refl 0 0 (lit< tt) (lit< tt)
 
     take_frame : writes (among (Slacks ∷ [])) (loop (2 ^ B.m) (take_turn l a b)) ≡ true
-    take_frame = writes_loop _ (2 ^ B.m) (take_turn l a b) (λ _ _. refl)
+    take_frame = writes_loop (among (Slacks ∷ [])) (2 ^ B.m) (take_turn l a b) (λ _ _. refl)
 
     flow_value : (t : State) → HoldsSlacks t → t (Temporary 2) ≡ rest_of B x a b
         → (run (take_block B.n B.m l a b) t (Flow l) ≡ flow_of B x a b) × ((S : ℕ) → S < 2 ^ B.m → run (take_block B.n B.m l a b) t (Slack S) ≡ x S - taken_of B x a b S)
@@ -195,5 +195,5 @@ module _ (B : Book) (sound : Sound B) where
     fills = λ s h l j a b. rw (lt-one b)
         ((loop_invariant Fixed (B.m * B.m) (line_block B.n B.m) s
         (holds_part (cell_tables B) (Slacks ∷ Capacities ∷ ZeroCells ∷ []) line_reads refl s h, λ S c. h Slacks refl S 0 c (lit< tt), λ q c. absurd (not-suc-le-zero c)) line_turn).2 l a);
-    frame = writes_loop _ (B.m * B.m) (line_block B.n B.m) (λ l _. line_frame B.n B.m l (l / B.m) (l % B.m));
+    frame = writes_loop (among (Flows ∷ Temporaries ∷ Slacks ∷ [])) (B.m * B.m) (line_block B.n B.m) (λ l _. line_frame B.n B.m l (l / B.m) (l % B.m));
   }

@@ -12,7 +12,7 @@ use Rattle.theory.specs.ClosedBest.{highest_offer_small}
 use Rattle.plan.specs.Orders.{constant, run, State}
 use Rattle.plan.specs.Residues.{times_on, on_times, less_small, max_small}
 use Rattle.plan.specs.Loops.{loop, writes_loop, eqb_same}
-use Rattle.plan.specs.Holds.{Holds, Phase, holds_keep, fill_column, fill_rows}
+use Rattle.plan.specs.Holds.{Holds, Phase, holds_keep, touches, fill_column, fill_rows}
 use Rattle.plan.specs.Names.{at, ZeroCells, Units, Shifts, Sides, PositivePrices, Memberships, Amounts, Offers, HighestOffers, Prices, Temporaries, HighestOffer}
 use Rattle.plan.specs.Running.{Raises, raise}
 use Rattle.plan.specs.Values.{cell_tables, positive_price, accepted_amount, offer, highest_offer, price_cells}
@@ -65,7 +65,7 @@ module _ (B : Book) (sound : Sound B) where
 
   pub highest_offer_phase_lem : Phase (cell_tables B) (Offers ∷ Memberships ∷ []) HighestOffers (Temporaries ∷ []) (loop B.m (highest_offer_block B.n B.m))
   highest_offer_phase_lem = fill_column (cell_tables B) (Offers ∷ Memberships ∷ []) HighestOffers (Temporaries ∷ []) refl refl refl (highest_offer_block B.n B.m)
-      (λ p. rw (eqb_same p) (writes_loop _ B.n (highest_offer_turn p) (λ i _. rw (eqb_same p)))) highest_offer_value
+      (λ p. rw (eqb_same p) (writes_loop (touches HighestOffers p (Temporaries ∷ [])) B.n (highest_offer_turn p) (λ i _. rw (eqb_same p)))) highest_offer_value
 
   price_value : (p j : ℕ) (t : State) → p < B.m → j < pool_results → Holds (cell_tables B) (HighestOffers ∷ Shifts ∷ ZeroCells ∷ []) t → run (price_block p) t (at Prices p j) ≡ price_cells B p j
   price_value p zero t b c h =

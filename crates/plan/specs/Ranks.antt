@@ -79,8 +79,8 @@ module _ (B : Book) (sound : Sound B) where
         eqb_same i,
         eqb_same p,
         own.1,
-        keep (among (SizesBefore ∷ Temporaries ∷ [])) (loop p (gain_turn i j)) (PoolSize j p) t (writes_loop _ p (gain_turn i j) (λ q _. refl)) refl,
-        keep (λ c. not (same (Temporary 0) c)) (loop p (gain_turn i j)) (Temporary 0) t (writes_loop _ p (gain_turn i j) (λ q _. refl)) refl,
+        keep (among (SizesBefore ∷ Temporaries ∷ [])) (loop p (gain_turn i j)) (PoolSize j p) t (writes_loop (among (SizesBefore ∷ Temporaries ∷ [])) p (gain_turn i j) (λ q _. refl)) refl,
+        keep (λ c. not (same (Temporary 0) c)) (loop p (gain_turn i j)) (Temporary 0) t (writes_loop (λ c. not (same (Temporary 0) c)) p (gain_turn i j) (λ q _. refl)) refl,
       )
 
   turn_frame : (i j : ℕ) → writes (among (SizesBefore ∷ Temporaries ∷ [])) (size_before_turn B.n B.m i j) ≡ true
@@ -113,15 +113,15 @@ module _ (B : Book) (sound : Sound B) where
   size_before_value i p t a l h =
       ap (λ (r : State). r (SizeBefore i p)) (named_run_append (loop B.m (size_before_start i)) (loop B.n (size_before_turn B.n B.m i)) t)
       ∙ (loop_invariant (Gained i) B.n (size_before_turn B.n B.m i) (run (loop B.m (size_before_start i)) t) (
-        holds_keep (cell_tables B) (SizesBefore ∷ []) size_before_reads refl (loop B.m (size_before_start i)) (writes_loop _ B.m (size_before_start i) (λ q _. refl)) t h,
+        holds_keep (cell_tables B) (SizesBefore ∷ []) size_before_reads refl (loop B.m (size_before_start i)) (writes_loop (among (SizesBefore ∷ [])) B.m (size_before_start i) (λ q _. refl)) t h,
         λ q b. (loop_own B.m (size_before_start i) (SizeBefore i q) t q b (λ k r ne. rw (eqb_same i, ne_eqb k q ne))).0 ∙ rw (eqb_same i, eqb_same q),
       )
       (λ j r b. size_before_turn_lem i j r a b)).1 p l
 
   pub size_before_phase_lem : Phase (cell_tables B) size_before_reads SizesBefore (Temporaries ∷ []) (loop B.n (size_before_block B.n B.m))
   size_before_phase_lem = fill_rows (cell_tables B) size_before_reads SizesBefore (Temporaries ∷ []) refl refl (size_before_block B.n B.m)
-      (λ i. writes_append (touches SizesBefore i (Temporaries ∷ [])) (loop B.m (size_before_start i)) _ (writes_loop _ B.m (size_before_start i) (λ q _. rw (eqb_same i)))
-      (writes_loop _ B.n (size_before_turn B.n B.m i) (λ j _. turn_writes (touches SizesBefore i (Temporaries ∷ [])) i j refl refl (λ p. rw (eqb_same i)))))
+      (λ i. writes_append (touches SizesBefore i (Temporaries ∷ [])) (loop B.m (size_before_start i)) (loop B.n (size_before_turn B.n B.m i)) (writes_loop (touches SizesBefore i (Temporaries ∷ [])) B.m (size_before_start i) (λ q _. rw (eqb_same i)))
+      (writes_loop (touches SizesBefore i (Temporaries ∷ [])) B.n (size_before_turn B.n B.m i) (λ j _. turn_writes (touches SizesBefore i (Temporaries ∷ [])) i j refl refl (λ p. rw (eqb_same i)))))
       size_before_value
 
   -- ---- the rank of bids with sums x in cells X, in cell i of family u

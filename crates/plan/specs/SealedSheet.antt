@@ -12,7 +12,6 @@ use Rattle.definitions.specs.Machine.{cell, IsSheet}
 use Rattle.laws.specs.Rows.{row_column}
 use Rattle.laws.specs.Tests.{Lt?, less, more, lt?}
 use Rattle.laws.specs.AcceptedBook.{Sound}
-use Rattle.plan.specs.Names.{at}
 use Rattle.residues.specs.Residues.{residue_below}
 
 zeros_cell : (k i : ℕ) → get_or (replicate {A = ℕ} k 0) i 0 ≡ 0
