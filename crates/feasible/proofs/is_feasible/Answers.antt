@@ -52,19 +52,19 @@ in_turn c =
     ∙ sym (ap (λ (r : Refusal). is_none r && feasible_numbers (book_at c.before.before.before) c.args.amounts.now c.args.flows.now) (passed c))
 
 bids_pass : (c : Else-not-are_within) → by_bids c.before.before.before.before.before ≡ true
-bids_pass c = sym c.are_within.ensures ∙ (ap not c.if-not-are_within.false)
+bids_pass c = sym c.are_within.ensures ∙ c.if-not-are_within.false
 
 lines_pass : (c : Else-not-are_within-2) → by_lines c.before.before.before.before.before.before.before ≡ true
-lines_pass c = sym c.are_within-2.ensures ∙ (ap not c.if-not-are_within-2.false)
+lines_pass c = sym c.are_within-2.ensures ∙ c.if-not-are_within-2.false
 
 pub returns-then-not-are_within : goal.returns-then-not-are_within
 returns-then-not-are_within c =
-    let no : by_bids c.before.before.before.before.before ≡ false = sym c.are_within.ensures ∙ (ap not c.if-not-are_within.true) in
+    let no : by_bids c.before.before.before.before.before ≡ false = sym c.are_within.ensures ∙ c.if-not-are_within.true in
     sym (ap (λ (t : Bool). t && (by_lines c.before.before.before.before.before && by_pools c.before.before.before.before.before)) no) ∙ in_turn c.before.before
 
 pub returns-then-not-are_within-2 : goal.returns-then-not-are_within-2
 returns-then-not-are_within-2 c =
-    let no : by_lines c.before.before.before.before.before.before.before ≡ false = sym c.are_within-2.ensures ∙ (ap not c.if-not-are_within-2.true) in
+    let no : by_lines c.before.before.before.before.before.before.before ≡ false = sym c.are_within-2.ensures ∙ c.if-not-are_within-2.true in
     sym (ap (λ (t : Bool). t && (by_lines c.before.before.before.before.before.before.before && by_pools c.before.before.before.before.before.before.before)) (bids_pass c.before.before) ∙ ap (λ (t : Bool). t && by_pools c.before.before.before.before.before.before.before) no)
     ∙ in_turn c.before.before.before.before
 
@@ -81,6 +81,6 @@ pub are_within-requires-2 : goal.are_within-requires-2
 are_within-requires-2 c = omega (arith, (sizes c.before.before).capacity_table, (sizes c.before.before).flow_count)
 
 pub is_balanced-requires : goal.is_balanced-requires
-is_balanced-requires c = (λ c κs.
+is_balanced-requires c =
     let s = c.before.before.before.before.before.before.before in
-    tables_fit (book_at s) s.args.amounts.now s.args.flows.now (sizes c.before.before.before.before)) c
+    tables_fit (book_at s) s.args.amounts.now s.args.flows.now (sizes c.before.before.before.before)
