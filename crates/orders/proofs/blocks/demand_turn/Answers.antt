@@ -1,0 +1,11 @@
+-- `demand_turn` meets its contract: each arm is the block's order at its place.
+use native.Mathlib.Omega.{arith}
+use Rattle.orders.specs.Walk.{at_place}
+use Rattle.orders.specs.Shaped.{past}
+use Rattle.orders.proofs.blocks.demand_turn.Goals as goal
+
+pub returns-in-0 : goal.returns-in-0
+returns-in-0 c = at_place _ _ 0 c.in-0.is
+
+pub returns-in-1-to-max : goal.returns-in-1-to-max
+returns-in-1-to-max c = at_place _ c.args.r 1 (omega (arith, past c.args.r 1 c.in-1-to-max.rest, c.requires))
