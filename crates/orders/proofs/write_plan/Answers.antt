@@ -50,9 +50,6 @@ returns-then-not-is_accepted-clause-slice c =
     let by = by_counts plan c.args.n c.args.m c.args.at (length c.args.out.now) away in
     let all = nothing c.before.before.before.before.before.before c.none_written.result _ c.none_written.ensures (counts ∙ sym by) (ap is_none by ∙ away) in all.2
 
-passed : (c : Else-not-is_accepted) → let a = c.args in counts_refusal a.n a.m ≡ none
-passed c = let_through c.judge_counts-counts.ensures c.is_accepted.ensures (ap not c.if-not-is_accepted.false)
-
 -- the verdict on position and room is that on the call
 room : (c : After-judge_room-verdict) → let a = c.args in
     refusal_of c.judge_room-verdict.result ≡ write_refusal plan a.n a.m a.at (length a.out.now)
@@ -60,7 +57,7 @@ room c =
     let a = c.args in
     c.judge_room-verdict.ensures
     ∙ ap (λ (k : ℕ). first (past_refusal k a.at) (room_refusal (length a.out.now))) c.length_of-total.ensures
-    ∙ sym (by_room plan a.n a.m a.at (length a.out.now) (passed (TODOVIEW c Else-not-is_accepted)))
+    ∙ sym (by_room plan a.n a.m a.at (length a.out.now) (let_through c.judge_counts-counts.ensures c.is_accepted.ensures (ap not c.if-not-is_accepted.false)))
 
 pub returns-then-not-is_accepted-2-clause-verdict : goal.returns-then-not-is_accepted-2-clause-verdict
 returns-then-not-is_accepted-2-clause-verdict c =
@@ -81,16 +78,16 @@ pub returns-clause-verdict : goal.returns-clause-verdict
 returns-clause-verdict c =
     let a = c.args in
     let accepted = let_through (room (goal.at.returns-clause-verdict c).After-judge_room-verdict) c.is_accepted-2.ensures (ap not c.if-not-is_accepted-2.false) in
-    let done = c.write_from.ensures in done.0 ∙ sym accepted
+    c.write_from.ensures.verdict ∙ sym accepted
 
 pub returns-clause-counts : goal.returns-clause-counts
 returns-clause-counts c =
     let a = c.args in
     let accepted = let_through (room (goal.at.returns-clause-counts c).After-judge_room-verdict) c.is_accepted-2.ensures (ap not c.if-not-is_accepted-2.false) in
-    let done = c.write_from.ensures in done.1.0 ∙ sym (counts_accepted plan a.n a.m a.at (length a.out.now) accepted)
+    c.write_from.ensures.counts ∙ sym (counts_accepted plan a.n a.m a.at (length a.out.now) accepted)
 
 pub returns-clause-slice : goal.returns-clause-slice
 returns-clause-slice c =
     let a = c.args in
     let accepted = let_through (room (goal.at.returns-clause-slice c).After-judge_room-verdict) c.is_accepted-2.ensures (ap not c.if-not-is_accepted-2.false) in
-    let done = c.write_from.ensures in done.1.1 ∙ sym (slice_accepted plan a.n a.m a.at a.out.now accepted)
+    c.write_from.ensures.slice ∙ sym (slice_accepted plan a.n a.m a.at a.out.now accepted)

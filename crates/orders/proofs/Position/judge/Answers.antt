@@ -17,7 +17,7 @@ unfolding ask_refusal
 returns-then-not-is_accepted c =
     let p = c.args.self in
     first_to_refuse c.judge_counts-counts.ensures c.is_accepted.ensures
-    (position_refusal (plan p.n p.m) p.at) c.if-not-is_accepted.true
+    (position_refusal (plan p.n p.m) p.at) (ap not c.if-not-is_accepted.true)
 
 passed : (c : Else-not-is_accepted) → let p = c.args.self in counts_refusal p.n p.m ≡ none
 passed c = let_through c.judge_counts-counts.ensures c.is_accepted.ensures (ap not c.if-not-is_accepted.false)

@@ -14,4 +14,4 @@ pub returns-in-2 : goal.returns-in-2
 returns-in-2 c = at_place _ _ 2 c.in-2.is
 
 pub returns-in-3-to-max : goal.returns-in-3-to-max
-returns-in-3-to-max c = at_place _ c.args.r 3 (omega (arith, past c.args.r 3 c.in-3-to-max.rest, c.requires))
+returns-in-3-to-max c = at_place _ c.args.r 3 (omega (arith, past c.args.r 3 c.in-3-to-max.in-3-to-max-own.rest, c.requires))

@@ -8,4 +8,4 @@ pub returns-in-0 : goal.returns-in-0
 returns-in-0 c = at_place _ _ 0 c.in-0.is
 
 pub returns-in-1-to-max : goal.returns-in-1-to-max
-returns-in-1-to-max c = at_place _ c.args.r 1 (omega (arith, past c.args.r 1 c.in-1-to-max.rest, c.requires))
+returns-in-1-to-max c = at_place _ c.args.r 1 (omega (arith, past c.args.r 1 c.in-1-to-max.in-1-to-max-own.rest, c.requires))

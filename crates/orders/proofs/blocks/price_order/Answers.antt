@@ -11,4 +11,4 @@ pub returns-in-1 : goal.returns-in-1
 returns-in-1 c = at_place _ _ 1 c.in-1.is
 
 pub returns-in-2-to-max : goal.returns-in-2-to-max
-returns-in-2-to-max c = at_place _ c.args.r 2 (omega (arith, past c.args.r 2 c.in-2-to-max.rest, c.requires))
+returns-in-2-to-max c = at_place _ c.args.r 2 (omega (arith, past c.args.r 2 c.in-2-to-max.in-2-to-max-own.rest, c.requires))

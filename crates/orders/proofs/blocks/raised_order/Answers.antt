@@ -29,4 +29,4 @@ pub returns-in-3-to-max : goal.returns-in-3-to-max
 returns-in-3-to-max c =
     let a = c.args in
     numbers_at NamedOrder (λ f g. flat_operation adding f a.x a.y f a.x a.y (number Temporaries) 0 0) a.f a.g c.requires.f_lt_family_count c.requires.g_lt_family_count
-    ∙ at_place _ _ 3 (omega (arith, past a.r 3 c.in-3-to-max.rest, c.requires.r_bound))
+    ∙ at_place _ _ 3 (omega (arith, past a.r 3 c.in-3-to-max.in-3-to-max-own.rest, c.requires.r_bound))

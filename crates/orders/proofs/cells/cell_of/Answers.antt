@@ -5,7 +5,7 @@ use Rattle.orders.proofs.cells.cell_of.Goals as goal
 use Rattle.orders.proofs.cells.cell_of.Goals.{After-result-2-1}
 
 cell : (c : After-result-2-1) → let a = c.args in CellBy a.n a.m a.f a.i a.j a.tables.now
-cell c = let p = c.requires in cell_by _ _ _ _ _ _ p.0 p.1.0 p.1.1
+cell c = let p = c.requires in cell_by _ _ _ _ _ _ c.requires.layout c.requires.f_lt_family_count c.requires.placed
 
 pub overflow_add-result-3 : goal.overflow_add-result-3
 overflow_add-result-3 c = omega (arith, (cell c).on_sheet)

@@ -40,5 +40,5 @@ returns-in-4 c = kind_is c.before 4 c.in-4.is
 
 pub returns-in_default : goal.returns-in_default
 returns-in_default c =
-    let none = c.in_default.rest in
+    let none = c.in_default.in_default-own.rest in
     last_kind _ c.if-kind-eq-CONSTANT.false none.0.0.0.1 none.0.0.1 none.0.1 none.1 _ _ _ ∙ operated c.before

@@ -19,7 +19,7 @@ loop-q-init c = ran_none _ _ _ _ _
 pub run_part-requires-clause-part_facts : goal.run_part-requires-clause-part_facts
 run_part-requires-clause-part_facts c =
     let p = c.requires in
-    let shape = p.1.1.0 in
+    let shape = c.requires.shape in
     let l : c.loop-q.q < length (phase_at c.args.n c.args.m c.args.k).parts = omega (arith, shape.parts, c.loop-q-test.true) in
     let facts = part_facts _ _ shape _ l _ c.part_of.ensures in facts
 

@@ -11,8 +11,7 @@ use Rattle.orders.proofs.run.run_turn.Goals.{In-loop-r}
 place : (c : In-loop-r)
     → let a = c.args in InPhase (phase_at a.n a.m a.k) a.i a.q a.j c.loop-r.r
 place c =
-    let p = c.requires.1.1 in
-    record { row = p.0.row; part = p.0.part; column = p.1.0; place = omega (arith, p.1.1, c.loop-r-test.true) }
+    record { row = c.requires.in_part.row; part = c.requires.in_part.part; column = c.requires.j_bound; place = omega (arith, c.requires.turn_value, c.loop-r-test.true) }
 
 pub loop-r-init : goal.loop-r-init
 loop-r-init c = done_none _ _ _ _
@@ -20,8 +19,7 @@ loop-r-init c = done_none _ _ _ _
 pub numbered_order-o-requires-clause-ready : goal.numbered_order-o-requires-clause-ready
 numbered_order-o-requires-clause-ready c =
     let a = c.args in
-    let p = c.requires in
-    let r = c.loop-r.r in order_ready a.n a.m a.k a.i a.q a.j r _ p.0.counts p.1.0 (place c.before) c.order_of.ensures
+    let r = c.loop-r.r in order_ready a.n a.m a.k a.i a.q a.j r _ c.requires.tables.counts c.requires.k_lt_phase_count (place c.before) c.order_of.ensures
 
 pub loop-r-preserved : goal.loop-r-preserved
 loop-r-preserved c =

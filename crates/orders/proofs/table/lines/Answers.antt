@@ -22,4 +22,4 @@ pub returns-in-3-to-max : goal.returns-in-3-to-max
 unfolding made
 returns-in-3-to-max c =    let a = c.args in
     c.take_turn.ensures ∙ one_of (line_phase a.n a.m) a.i a.q 3 a.j a.r
-    (omega (arith, past a.q 3 c.in-3-to-max.rest, c.requires.part)) c.requires refl
+    (omega (arith, past a.q 3 c.in-3-to-max.in-3-to-max-own.rest, c.requires.part)) c.requires refl

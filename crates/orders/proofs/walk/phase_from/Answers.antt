@@ -30,20 +30,20 @@ pub offset_bounds-tables-l : goal.offset_bounds-tables-l
 offset_bounds-tables-l c = omega (arith, among c)
 
 pub bounds-tables-l : goal.bounds-tables-l
-bounds-tables-l c = omega (arith, among c, c.requires.tables.tables.layout.long)
+bounds-tables-l c = omega (arith, among (goal.at.bounds-tables-l c).At-loop-y, c.requires.tables.tables.layout.long)
 
 -- the code's size is that of phase l
 sized : (c : At-loop-y) → let a = c.args in IsSize a.n a.m c.loop-y.l (get_or a.tables.now (sizes_from + c.loop-y.l) 0)
 sized c = c.requires.tables.tables.sizes c.loop-y.l (among c)
 
 pub overflow_add-l : goal.overflow_add-l
-overflow_add-l c = omega (arith, among (goal.at.overflow_add-l c).After-way_told-1)
+overflow_add-l c = omega (arith, among (goal.at.overflow_add-l c).At-loop-y)
 
 pub loop-y-smaller : goal.loop-y-smaller
-loop-y-smaller c = omega (arith, among (goal.at.loop-y-smaller c).After-way_told-1)
+loop-y-smaller c = omega (arith, among (goal.at.loop-y-smaller c).At-loop-y)
 
 pub loop-y-preserved : goal.loop-y-preserved
 unfolding phase_at
 loop-y-preserved c =
     let a = c.args in
-    phases_one (table a.n a.m) _ c.loop-y.y c.loop-y.l c.loop-y.invariant (left (goal.at.loop-y-preserved c).After-way_told-1) _ (sized (goal.at.loop-y-preserved c).After-way_told-1).is c.if-y-size.false
+    phases_one (table a.n a.m) _ c.loop-y.y c.loop-y.l c.loop-y.invariant (left (goal.at.loop-y-preserved c).At-loop-y) _ (sized (goal.at.loop-y-preserved c).At-loop-y).is c.if-y-size.false
