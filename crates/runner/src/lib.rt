@@ -1,4 +1,6 @@
 // The runner: checks all bytes of a plan, then runs their orders on the sheet.
+#![tactic(auto)]
+
 ghost use Rattle.std.specs.Prelude.{◌≡◌, length};
 ghost use Rattle.definitions.specs.Answers.{refusal_of};
 ghost use Rattle.definitions.specs.Machine.{IsSheet, run_of};
