@@ -1,4 +1,6 @@
 // What settle prints, written to a slice that the caller lends: the listing of opened results, a refusal, or that the text is unreadable.
+#![tactic(auto)]
+
 ghost use Rattle.std.specs.Prelude.{◌≡◌, ◌++◌, ◌+◌, ◌*◌, ◌<◌, ◌≤◌, length};
 ghost use Rattle.definitions.specs.Settle.{decimal_to, decimal, decimal_z, bid_line, flow_line, price_line, welfare_line, bid_lines, flow_lines, price_lines, listing, refused_text};
 ghost use Rattle.definitions.specs.Sheet.{result_count};

@@ -1,4 +1,6 @@
 // How far a text has come: n, m, the numbers of the tables, or an answer that no further byte changes.
+#![tactic(auto)]
+
 ghost use Rattle.std.specs.Prelude.{◌≡◌};
 ghost use Rattle.stages.specs.Counting.{decided, taken_by, counted_by, faulted, one_number_more, begun, called_for, place_for, place_within, stored_at, stage_input, completed};
 
@@ -21,7 +23,7 @@ pub enum Input {
 }
 
 // How far the text has come: n is next, m is next, numbers of the tables are next, or the answer is known.
-#[derive(Drop)]
+#[derive(Clone, Copy)]
 pub enum Stage {
     First,
     Second { n: usize },

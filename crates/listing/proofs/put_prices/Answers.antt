@@ -1,5 +1,5 @@
 -- `put_prices` meets its contract. Invariant: the slice holds the lines of the first p pools, and `end` lies behind them. Measure: the pools left.
-use Prim.Native.Nat.{◌+◌, ◌*◌, ◌-◌}
+use Prim.Native.Nat.{◌+◌, ◌*◌}
 use mathlib.Core.Path.{◌≡◌, sym, ap₂}
 use native.Mathlib.Omega.{arith}
 use lib.ListN.{get_or}

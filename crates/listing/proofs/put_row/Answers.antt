@@ -1,5 +1,5 @@
 -- `put_row` meets its contract. Invariant: the slice holds the lines of the row's first b flows, and `end` lies behind them. Measure: the flows left.
-use Prim.Native.Nat.{◌+◌, ◌*◌, ◌-◌}
+use Prim.Native.Nat.{◌+◌, ◌*◌}
 use mathlib.Core.Path.{◌≡◌, sym, ap}
 use native.Mathlib.Omega.{arith}
 use lib.ListN.{get_or}

@@ -1,5 +1,5 @@
 -- `put_word` meets its contract. Invariant: after i turns the slice holds the first i bytes of the word. Measure: the bytes left.
-use Prim.Native.Nat.{◌+◌, ◌-◌}
+use Prim.Native.Nat.{◌+◌}
 use mathlib.Core.Path.{◌≡◌, refl, ◌∙◌}
 use native.Mathlib.Omega.{arith}
 use lib.ListN.{length, length-set}

@@ -1,8 +1,7 @@
 -- `write_refused` meets its contract: the text fits, and is written where there is room.
-use native.Mathlib.Omega.{arith}
-use lib.ListN.{length}
-use lib.Dec.{leb}
-use borrow.Author.Tests.{le-leb, lt-leb}
+use Rattle.std.proofs.Common.{arith, length, le-leb}
+use Rattle.std.proofs.lemmas.Bool.{lt-leb}
+use Rattle.std.specs.Prelude.{leb}
 use Rattle.definitions.specs.Settle.{refused_text}
 use Rattle.listing.specs.Room.{refused_fits}
 use Rattle.listing.specs.Text.{text_room, refused_size, refused_slice}
@@ -13,16 +12,15 @@ pub returns-then-out-lt-ROOM : goal.returns-then-out-lt-ROOM
 unfolding refused_size refused_slice
 returns-then-out-lt-ROOM c =
     let a = c.args in
-    nothing_written_lem (leb text_room (length a.out.now)) (refused_text a.number a.place) a.out.now (lt-leb _ _ c.if-out-lt-ROOM.true)
+    let w = nothing_written_lem (leb text_room (length a.out.now)) (refused_text a.number a.place) a.out.now (lt-leb _ _ c.if-out-lt-ROOM.true) in
+    record { size = w.0; bytes = w.1 }
 
 pub put_refused-requires : goal.put_refused-requires
-put_refused-requires c =
-    let a = c.args in
-    omega (arith, c.if-out-lt-ROOM.false, refused_fits a.number a.place)
+put_refused-requires c = omega (arith, c.if-out-lt-ROOM.false, refused_fits c.args.number c.args.place)
 
 pub returns : goal.returns
 unfolding refused_size refused_slice
 returns c =
     let a = c.args in
-    let l = c.if-out-lt-ROOM.false in
-    text_written (leb text_room (length a.out.now)) (le-leb _ _ l) (omega (arith, refused_fits a.number a.place)) c.before.before.Put-refused.ensures
+    let w = text_written (leb text_room (length a.out.now)) (le-leb _ _ c.if-out-lt-ROOM.false) (omega (arith, refused_fits a.number a.place)) c.put_refused.ensures in
+    record { size = w.0; bytes = w.1 }

@@ -1,18 +1,21 @@
 -- `write_unreadable` meets its contract: the text is one word, written where there is room.
-use lib.ListN.{length}
-use lib.Dec.{leb}
-use borrow.Author.Rules.{rules}
-use borrow.Author.Tests.{lt-leb}
+use Rattle.std.proofs.Common.{arith, length, le-leb}
+use Rattle.std.proofs.lemmas.Bool.{lt-leb}
+use Rattle.std.specs.Prelude.{leb}
 use Rattle.definitions.specs.Settle.{unreadable_text}
 use Rattle.listing.specs.Text.{text_room, unreadable_size, unreadable_slice}
-use Rattle.listing.specs.Written.{nothing_written_lem}
+use Rattle.listing.specs.Written.{text_written, nothing_written_lem}
 use Rattle.listing.proofs.write_unreadable.Goals as goal
 
 pub returns-then-out-lt-ROOM : goal.returns-then-out-lt-ROOM
 unfolding unreadable_size unreadable_slice
 returns-then-out-lt-ROOM c =
     let out = c.args.out.now in
-    nothing_written_lem (leb text_room (length out)) unreadable_text out (lt-leb _ _ c.if-out-lt-ROOM.true)
+    let w = nothing_written_lem (leb text_room (length out)) unreadable_text out (lt-leb _ _ c.if-out-lt-ROOM.true) in
+    record { size = w.0; bytes = w.1 }
 
 pub returns : goal.returns
-returns c = search rules
+unfolding unreadable_size unreadable_slice unreadable_text
+returns c =
+    let w = text_written (leb text_room (length c.args.out.now)) (le-leb _ _ c.if-out-lt-ROOM.false) (omega arith) c.put_word.ensures in
+    record { size = w.0; bytes = w.1 }
