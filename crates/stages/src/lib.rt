@@ -21,7 +21,7 @@ pub enum Input {
 }
 
 // How far the text has come: n is next, m is next, numbers of the tables are next, or the answer is known.
-#[derive(Drop)]
+#[derive(Clone, Copy)]
 pub enum Stage {
     First,
     Second { n: usize },

@@ -4,7 +4,7 @@ ghost use Rattle.definitions.specs.Settle.{blank};
 ghost use Rattle.stages.specs.Words.{grown_by, digit_after, capped, ended_of, signed_of};
 
 // The word being read: nothing yet, a minus alone, digits with their sign and value, or no number whatever follows.
-#[derive(Drop)]
+#[derive(Clone, Copy)]
 pub enum Word {
     Empty,
     Minus,
@@ -22,7 +22,7 @@ impl Word {
 }
 
 // What a word is once it has ended: nothing, no number, or a number within signed 32 bits.
-#[derive(Drop)]
+#[derive(Clone, Copy)]
 pub enum Ended {
     Nothing,
     Fault,
