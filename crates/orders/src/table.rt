@@ -16,11 +16,11 @@ use crate::sets::{lowest_pool, subset_count};
 use definitions::Limits;
 
 // The columns of a part of a phase's row, and how many orders each has.
-#[derive(Drop)]
+#[derive(Clone, Copy)]
 pub struct Columns(pub usize, pub usize);
 
 // A phase: how many rows, how many parts a row has, then for each of four parts its columns and how many orders each has.
-#[derive(Drop)]
+#[derive(Clone, Copy)]
 pub struct Shape(
     pub usize,
     pub usize,

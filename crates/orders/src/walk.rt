@@ -101,7 +101,7 @@ fn in_row(
 }
 
 // A place in the table: a phase, and a place within it.
-#[derive(Drop)]
+#[derive(Clone, Copy)]
 pub struct Within(pub usize, pub usize);
 
 // The place of the order that stands x orders behind the start of phase k, before the plan's end.
