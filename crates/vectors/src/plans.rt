@@ -37,7 +37,8 @@ fn show_examples(rt: &impl Print) -> io::Result<()> {
         b"example 9:\n",
         b"\x00\x00\x80\x80\x80\x80\x04\x04\x02\x00\x01",
     )?;
-    show(rt, b"example 10:\n", b"\x00\xac\x02\xfe\xff\xff\xff\x07")
+    show(rt, b"example 10:\n", b"\x00\xac\x02\xfe\xff\xff\xff\x07")?;
+    Ok(())
 }
 
 // Sound plans: each kind.
@@ -72,7 +73,8 @@ fn show_kinds(rt: &impl Print) -> io::Result<()> {
         rt,
         b"equal:\n",
         b"\x00\x00\x05\x00\x01\x07\x05\x02\x00\x01\x05\x03\x01\x01",
-    )
+    )?;
+    Ok(())
 }
 
 // Cells that coincide, and the last cell.
@@ -91,7 +93,8 @@ fn show_edges(rt: &impl Print) -> io::Result<()> {
         rt,
         b"last cell:\n",
         b"\x00\xff\x1f\x01\x01\xfe\x1f\xff\x1f\xff\x1f",
-    )
+    )?;
+    Ok(())
 }
 
 // Bytes that end inside the second order.
@@ -114,7 +117,8 @@ fn show_cut(rt: &impl Print) -> io::Result<()> {
         rt,
         b"cut in the second cell:\n",
         b"\x00\x00\x05\x01\x00\x00\x80",
-    )
+    )?;
+    Ok(())
 }
 
 // A kind that is none, and numbers not in their shortest form.
@@ -136,7 +140,8 @@ fn show_longer(rt: &impl Print) -> io::Result<()> {
         rt,
         b"constant in a longer form:\n",
         b"\x00\x00\x05\x00\x00\x85\x80\x00",
-    )
+    )?;
+    Ok(())
 }
 
 // Numbers too long or too great.
@@ -171,7 +176,8 @@ fn show_beyond(rt: &impl Print) -> io::Result<()> {
         rt,
         b"constant p:\n",
         b"\x00\x00\xfd\xff\xff\xff\x07\x00\x01\xff\xff\xff\xff\x07",
-    )
+    )?;
+    Ok(())
 }
 
 // Number by number: the first bad number decides.
@@ -196,7 +202,8 @@ fn show_first(rt: &impl Print) -> io::Result<()> {
         b"longer form before a cell past the last:\n",
         b"\x00\x00\x05\x01\x00\x80\x00\x80\x20",
     )?;
-    show(rt, b"bad order before a bad order:\n", b"\x06\x86\x00")
+    show(rt, b"bad order before a bad order:\n", b"\x06\x86\x00")?;
+    Ok(())
 }
 
 // All bytes are checked before the first order is run.
@@ -217,7 +224,8 @@ fn show_unchanged(rt: &impl Print) -> io::Result<()> {
         b"sound plan after a sound one:\n",
         b"\x00\x00\x05\x00\x01\x07",
         b"\x01\x00\x00\x01",
-    )
+    )?;
+    Ok(())
 }
 
 pub fn show_all(rt: &impl Print) -> io::Result<()> {

@@ -30,7 +30,8 @@ fn show_examples(rt: &impl Print) -> io::Result<()> {
         rt,
         b"rerouting:\n",
         b"3 4 1 10 -4 2 20 -4 4 30 8 0 4 4 0 0 0 0 4 0 0 0 4 0 0 0 0",
-    )
+    )?;
+    Ok(())
 }
 
 // The edges of the limits.
@@ -41,7 +42,8 @@ fn show_edges(rt: &impl Print) -> io::Result<()> {
         b"greatest and least:\n",
         b"2 1 1 -30000 -65535 1 30000 65535 0",
     )?;
-    show(rt, b"dear sale alone:\n", b"1 1 1 30000 -65535 0")
+    show(rt, b"dear sale alone:\n", b"1 1 1 30000 -65535 0")?;
+    Ok(())
 }
 
 // What is refused, and by which number.
@@ -52,7 +54,8 @@ fn show_refused(rt: &impl Print) -> io::Result<()> {
     show(rt, b"capacity too high:\n", b"0 2 0 1000001 -1 0")?;
     show(rt, b"diagonal:\n", b"0 2 0 1000000 0 1")?;
     show(rt, b"65 bids:\n", b"65 1")?;
-    show(rt, b"5 pools:\n", b"0 5")
+    show(rt, b"5 pools:\n", b"0 5")?;
+    Ok(())
 }
 
 // Where the text, and not the book, decides.
@@ -62,7 +65,8 @@ fn show_unreadable(rt: &impl Print) -> io::Result<()> {
     show(rt, b"one number too many:\n", b"0 1 0 5")?;
     show(rt, b"no number:\n", b"0 1 5 x")?;
     show(rt, b"nothing:\n", b"")?;
-    show(rt, b"blanks:\n", b"\n 0  1\n\n-0 \n")
+    show(rt, b"blanks:\n", b"\n 0  1\n\n-0 \n")?;
+    Ok(())
 }
 
 // As many bids as there may be.
@@ -71,7 +75,8 @@ fn show_full(rt: &impl Print) -> io::Result<()> {
         rt,
         b"64 bids:\n",
         b"64 1 1 100 -10 1 101 -11 1 102 -12 1 103 -13 1 104 -14 1 105 -15 1 106 -16 1 107 -17 1 108 -18 1 109 -19 1 110 -20 1 111 -21 1 112 -22 1 113 -23 1 114 -24 1 115 -25 1 116 -26 1 117 -27 1 118 -28 1 119 -29 1 120 -30 1 121 -31 1 122 -32 1 123 -33 1 124 -34 1 125 -35 1 126 -36 1 127 -37 1 128 -38 1 129 -39 1 130 -40 1 131 -41 1 150 7 1 149 9 1 148 11 1 147 13 1 146 15 1 145 17 1 144 19 1 143 21 1 142 23 1 141 25 1 140 27 1 139 29 1 138 31 1 137 33 1 136 35 1 135 37 1 134 39 1 133 41 1 132 43 1 131 45 1 130 47 1 129 49 1 128 51 1 127 53 1 126 55 1 125 57 1 124 59 1 123 61 1 122 63 1 121 65 1 120 67 1 119 69 0",
-    )
+    )?;
+    Ok(())
 }
 
 pub fn show_all(rt: &impl Print) -> io::Result<()> {
