@@ -13,7 +13,7 @@ import sys
 TOKEN = re.compile(r'[^\s(){}\[\];,.«»"`:⌜⌝λ]+')
 HEAD = re.compile(r'^(abbrev |unfoldable )?(pub )?(data |record )?([^\s(){}:;=]+)(?: [({](?:[^(){}]|\([^()]*\))*[)}])* : ')
 BOUND = re.compile(r'[({]([^\s(){}:]+(?: [^\s(){}:]+)*) : ')
-USE = re.compile(r'^(?:ghost |unfoldable )?(?:pub )?use Rattle·(\w+)(?:·\w+)?\.specs\.([\w.-]+?)(?:\.\{([^}]*)\}| as (\w+))?;?$')
+USE = re.compile(r'^(?:ghost |unfoldable )?(?:pub )?use Rattle\.(?!std\b)(\w+)\.specs\.([\w.]+?)(?:\.\{([^}]*)\}| as (\w+))?;?$')
 STOP = {('plan', 'Numbered', 'plan')}
 
 
@@ -146,11 +146,13 @@ def roots(modules):
         for path in [main] + [f'crates/{crate}/src/{name}.rt' for name in inner]:
             found |= Imports(code_lines(path)).cited(contracts(path, program))
     documents = read('docs/DEMANDS.md').split('## How it is proved')[0] + read('docs/SPECIFICATION.md').split('## Beside the definitions')[0]
-    # a law by its name, a word without a hyphen too; a word of the documents that is no law names a definition or something of the code
-    words = set(re.findall(r'`([a-z][a-z0-9]*(?:-[a-z0-9]+)*)`', documents))
+    # a law by its name, a word without a line below too; a word of the documents that is no law names a definition or something of the code
+    words = set(re.findall(r'`([a-z][a-z0-9]*(?:_[a-z0-9]+)*)`', documents))
     # a record's fields are stated with it; facts about the definitions alone cite nothing beside them
     known = {field for _, _, fields, _ in modules.values() for field in fields}
     known |= {name for path in glob.glob('crates/definitions/proofs/*.antt') for name in declarations(path)[0]}
+    # a definition of the documents may share its name with a law of another crate
+    known |= {name for (crate, _), (found_here, *_) in modules.items() if crate == 'definitions' for name in found_here if found_here[name].is_definition}
     public = set()
     for (crate, module), (declared, _, _, imports) in modules.items():
         for name, found_here in declared.items():

@@ -10,7 +10,7 @@ import compare
 import damaged
 
 CRATE = pathlib.Path(__file__).parent.parent / "crates" / "vectors"
-CALL = re.compile(r'^    show(?:_after)?\(\s*(b"[^;]*)\);$', re.MULTILINE)
+CALL = re.compile(r'^    show(?:_after)?\(\s*rt,\s*(b"[^;]*)\)\?;$', re.MULTILINE)
 LITERAL = re.compile(r'b"[^"]*"')
 
 

@@ -1,194 +1,132 @@
-// Lines on standard output: a name with its numbers or its entries, a verdict, the cells of a sheet.
+// Lines on standard output: a name with its numbers, a verdict, the cells of a sheet.
 // A line is put together in a buffer, which is written when it is full and at the line's end. No contract can say what is written.
-ghost use Rattle.std.specs.Prelude.{◌≤◌, length};
+#![tactic(auto)]
+
+ghost use Rattle.std.specs.Prelude.{◌≤◌, length, IfOk};
 
 use answers::{is_accepted, number, place};
 use definitions::{Limits, Verdict};
-use libc::STDOUT_FILENO;
-use sums::size;
+use itoa::{Buffer, Integer};
+use std::io;
 
-#[derive(Drop)]
+#[derive(Clone, Copy)]
 struct Line {}
 
 impl Line {
     // The bytes that are written at once.
     const ROOM: usize = 4_096;
-
-    // No number of 64 bits has more decimal digits.
-    const DIGITS: usize = 20;
 }
 
 // ---- Pieces: each is put at a position of the buffer, and gives the position behind it.
 
 // A full buffer is written, and filled anew from its start.
-fn put_byte(out: &mut [u8; Line::ROOM], at: usize, byte: u8) -> usize
+fn put_byte<P: Print>(rt: &P, out: &mut [u8; Line::ROOM], at: usize, byte: u8) -> io::Result<usize>
     requires { at ≤ 4096 }
-    ensures { result ≤ 4096 }
+    ensures { IfOk result (λ end. end ≤ 4096) }
 {
     if at < Line::ROOM {
         out[at] = byte;
-        return at + 1;
+        return Ok(at + 1);
     }
-    io::write_all(STDOUT_FILENO, out);
+    rt.write_all(out)?;
     out[0] = byte;
-    1
+    Ok(1)
 }
 
-fn put_text(out: &mut [u8; Line::ROOM], at: usize, text: &[u8]) -> usize
+fn put_text<P: Print>(
+    rt: &P,
+    out: &mut [u8; Line::ROOM],
+    at: usize,
+    text: &[u8],
+) -> io::Result<usize>
     requires { at ≤ 4096 }
-    ensures { result ≤ 4096 }
+    ensures { IfOk result (λ end. end ≤ 4096) }
 {
     let mut end = at;
-    let mut i = 0;
-    while i < text.len() {
-        end = put_byte(out, end, text[i]);
-        i += 1;
+    for byte in text {
+        end = put_byte(rt, out, end, *byte)?;
     }
-    end
+    Ok(end)
 }
 
-fn put_number(out: &mut [u8; Line::ROOM], at: usize, v: usize) -> usize
+fn put_number<P: Print, N: Integer>(
+    rt: &P,
+    out: &mut [u8; Line::ROOM],
+    at: usize,
+    v: N,
+) -> io::Result<usize>
     requires { at ≤ 4096 }
-    ensures { result ≤ 4096 }
+    ensures { IfOk result (λ end. end ≤ 4096) }
 {
-    let mut digits = [0u8; Line::DIGITS];
-    let count = io::decimal(v as u64, &mut digits);
-    put_text(out, at, &digits[..count])
-}
-
-fn put_signed(out: &mut [u8; Line::ROOM], at: usize, v: i64) -> usize
-    requires { at ≤ 4096 }
-    ensures { result ≤ 4096 }
-{
-    let digits = size(v);
-    if v < 0 {
-        let after = put_byte(out, at, b'-');
-        return put_number(out, after, digits);
-    }
-    put_number(out, at, digits)
+    let mut digits = Buffer::new();
+    put_text(rt, out, at, digits.format(v).as_bytes())
 }
 
 // A number behind a space.
-fn put_entry(out: &mut [u8; Line::ROOM], at: usize, v: i64) -> usize
+fn put_entry<P: Print, N: Integer>(
+    rt: &P,
+    out: &mut [u8; Line::ROOM],
+    at: usize,
+    v: N,
+) -> io::Result<usize>
     requires { at ≤ 4096 }
-    ensures { result ≤ 4096 }
+    ensures { IfOk result (λ end. end ≤ 4096) }
 {
-    let after = put_byte(out, at, b' ');
-    put_signed(out, after, v)
+    let after = put_byte(rt, out, at, b' ')?;
+    put_number(rt, out, after, v)
 }
 
-fn write_part(out: &[u8], size: usize)
+fn write_part<P: Print>(rt: &P, out: &[u8], size: usize) -> io::Result<()>
     requires { size ≤ length out.now }
 {
-    io::write_all(STDOUT_FILENO, &out[..size]);
+    rt.write_all(&out[..size])
 }
 
 // Writes the bytes before a position, and the line's end.
-fn write_line(out: &[u8; Line::ROOM], at: usize)
+fn write_line<P: Print>(rt: &P, out: &[u8; Line::ROOM], at: usize) -> io::Result<()>
     requires { at ≤ 4096 }
 {
-    write_part(out, at);
-    io::write_all(STDOUT_FILENO, b"\n");
+    write_part(rt, out, at)?;
+    rt.write_all(b"\n")
 }
 
 // ---- Lines
 
-pub fn print_signed(name: &[u8], v: i64) {
-    let mut out = [0u8; Line::ROOM];
-    let entry = put_text(&mut out, 0, name);
-    let end = put_entry(&mut out, entry, v);
-    write_line(&out, end);
-}
-
 // A name and numbers, each behind a space.
-pub fn print_numbers(name: &[u8], numbers: &[usize]) {
+pub fn print_numbers<P: Print, N: Integer>(rt: &P, name: &[u8], numbers: &[N]) -> io::Result<()> {
     let mut out = [0u8; Line::ROOM];
-    let mut end = put_text(&mut out, 0, name);
-    let mut i = 0;
-    while i < numbers.len() {
-        let after = put_byte(&mut out, end, b' ');
-        end = put_number(&mut out, after, numbers[i]);
-        i += 1;
+    let mut end = put_text(rt, &mut out, 0, name)?;
+    for v in numbers {
+        end = put_entry(rt, &mut out, end, *v)?;
     }
-    write_line(&out, end);
+    write_line(rt, &out, end)
 }
 
-pub fn print_number(name: &[u8], v: usize) {
-    let numbers = [v];
-    print_numbers(name, &numbers);
+pub fn print_number<P: Print, N: Integer>(rt: &P, name: &[u8], v: N) -> io::Result<()> {
+    let mut out = [0u8; Line::ROOM];
+    let entry = put_text(rt, &mut out, 0, name)?;
+    let end = put_entry(rt, &mut out, entry, v)?;
+    write_line(rt, &out, end)
 }
 
-pub fn print_pair(name: &[u8], a: usize, b: usize) {
-    let numbers = [a, b];
-    print_numbers(name, &numbers);
+pub fn print_pair<P: Print>(rt: &P, name: &[u8], a: usize, b: usize) -> io::Result<()> {
+    print_numbers(rt, name, &[a, b])
 }
 
 // `accepted`, or `refused` with number and place.
-pub fn print_verdict(verdict: Verdict) {
+pub fn print_verdict<P: Print>(rt: &P, verdict: Verdict) -> io::Result<()> {
     if is_accepted(verdict) {
-        io::write_all(STDOUT_FILENO, b"accepted\n");
-        return;
+        return rt.write_all(b"accepted\n");
     }
-    print_pair(b"refused", number(verdict) as usize, place(verdict));
-}
-
-fn from_integer(x: i32) -> i64 {
-    x as i64
-}
-
-fn from_word(x: u32) -> i64 {
-    x as i64
-}
-
-fn from_byte(x: u8) -> i64 {
-    x as i64
-}
-
-// A name and the entries of a slice, each behind a space.
-pub fn print_integers(name: &[u8], entries: &[i32]) {
-    let mut out = [0u8; Line::ROOM];
-    let mut end = put_text(&mut out, 0, name);
-    let mut i = 0;
-    while i < entries.len() {
-        end = put_entry(&mut out, end, from_integer(entries[i]));
-        i += 1;
-    }
-    write_line(&out, end);
-}
-
-pub fn print_words(name: &[u8], entries: &[u32]) {
-    let mut out = [0u8; Line::ROOM];
-    let mut end = put_text(&mut out, 0, name);
-    let mut i = 0;
-    while i < entries.len() {
-        end = put_entry(&mut out, end, from_word(entries[i]));
-        i += 1;
-    }
-    write_line(&out, end);
-}
-
-pub fn print_bytes(name: &[u8], entries: &[u8]) {
-    let mut out = [0u8; Line::ROOM];
-    let mut end = put_text(&mut out, 0, name);
-    let mut i = 0;
-    while i < entries.len() {
-        end = put_entry(&mut out, end, from_byte(entries[i]));
-        i += 1;
-    }
-    write_line(&out, end);
-}
-
-fn wide(x: u32) -> usize {
-    x as usize
+    print_pair(rt, b"refused", number(verdict) as usize, place(verdict))
 }
 
 // Each cell that is not 0, on a line of its own.
-pub fn print_cells(sheet: &[u32; Limits::CELLS]) {
-    let mut c = 0;
-    while c < Limits::CELLS {
-        if sheet[c] != 0 {
-            print_pair(b"cell", c, wide(sheet[c]));
+pub fn print_cells<P: Print>(rt: &P, sheet: &[u32; Limits::CELLS]) -> io::Result<()> {
+    for (c, cell) in sheet.iter().enumerate() {
+        if *cell != 0 {
+            print_pair(rt, b"cell", c, *cell as usize)?;
         }
-        c += 1;
     }
+    Ok(())
 }

@@ -1,15 +1,15 @@
 // Runs the plan bytes of standard input on an empty sheet, and prints the count of orders and every cell that is not 0, or the refusal.
-// A part of a plan is not run: where more is left to read than the room takes, or a read fails, `not read whole` is printed. That `gather` says so
-// is tested, and in no contract: none can say what a read gives.
-ghost use Rattle.io.specs.Counts.{IsPrefixLen};
+// A part of a plan is not run: where more is left to read than the room takes, or a read fails, `not read whole` is printed.
+#![tactic(auto)]
 
 use answers::is_accepted;
 use definitions::Limits;
-use libc::{STDIN_FILENO, STDOUT_FILENO};
+use gathering::gather;
 use printing::{print_cells, print_number, print_verdict};
 use runner::run;
+use std::io;
 
-#[derive(Drop)]
+#[derive(Clone, Copy)]
 struct Replay {}
 
 impl Replay {
@@ -17,47 +17,17 @@ impl Replay {
     const ROOM: usize = 524_288;
 }
 
-// How many bytes were read, and whether they are all: an answer below 0 is a failed read, and 0 is the end.
-#[derive(Drop)]
-struct Gathered {
-    size: usize,
-    whole: bool,
-}
-
-fn gather(bytes: &mut [u8]) -> Gathered
-    ensures { IsPrefixLen result.size bytes.new }
-{
-    let mut size = 0;
-    while size < bytes.len() {
-        let got = libc::read(STDIN_FILENO, &mut bytes[size..]);
-        if got < 0 {
-            return Gathered { size, whole: false };
-        }
-        if got == 0 {
-            return Gathered { size, whole: true };
-        }
-        size += io::count(got, &bytes[size..]);
-    }
-    let mut more = io::buffer();
-    let whole = libc::read(STDIN_FILENO, &mut more) == 0;
-    Gathered { size, whole }
-}
-
-fn main() {
+fn main(rt: HostRuntime) -> io::Result<()> {
     let mut bytes = [0u8; Replay::ROOM];
-    let gathered = gather(&mut bytes);
+    let gathered = gather(&mut rt.stdin(), &mut bytes);
     if !gathered.whole {
-        io::write_all(STDOUT_FILENO, b"not read whole\n");
-        return;
+        return rt.write_all(b"not read whole\n");
     }
-    let size = gathered.size;
     let mut sheet = [0u32; Limits::CELLS];
-    let ran = run(&mut sheet, &bytes[..size]);
-    let verdict = ran.verdict;
-    if !is_accepted(verdict) {
-        print_verdict(verdict);
-        return;
+    let ran = run(&mut sheet, &bytes[..gathered.size]);
+    if !is_accepted(ran.verdict) {
+        return print_verdict(&rt, ran.verdict);
     }
-    print_number(b"orders", ran.orders);
-    print_cells(&sheet);
+    print_number(&rt, b"orders", ran.orders)?;
+    print_cells(&rt, &sheet)
 }

@@ -107,6 +107,7 @@ unfolding input_text
 nothing_cleared printed settle.unreadable e t = inl e
 nothing_cleared printed (settle.refused r) e (inl q) = inr (inl (e ∙ ap (λ (s : Refusal). refused_text (number_of s) (place_of s)) q))
 nothing_cleared printed (settle.refused r) e (inr q) = inr (inr (e ∙ ap (λ (s : Refusal). refused_text (number_of s) (place_of s)) q))
+nothing_cleared printed (settle.readable _) e t = elim t [ ]
 
 pub prints_whole : (before : List ℤ) (input : Input) (numbers : List ℤ) (printed : List ℕ) → length before ≡ table_numbers
     → ReadWhole before input numbers → printed ≡ input_text plan (input_for input numbers) → PrintsWhole printed

@@ -1,0 +1,2 @@
+-- Counts of bytes in a buffer that is lent.
+pub mod Counts
