@@ -15,5 +15,5 @@ returns-clause-printed c =
     let e = c.settle.ensures in
     let cells : ℕ = length a.sheet.now in
     let q = c.read-input.ensures.input in
-    let size = e.0 ∙ ap (λ (i : Input). settled_size plan i cells (length a.out.now)) q in
-    let bytes = e.1.1.0 ∙ ap (λ (i : Input). settled_slice plan i cells a.out.now) q in settled_over plan (settle_input a.text.now) cells _ a.out.now _ size bytes
+    let size = e.size ∙ ap (λ (i : Input). settled_size plan i cells (length a.out.now)) q in
+    let bytes = e.bytes ∙ ap (λ (i : Input). settled_slice plan i cells a.out.now) q in settled_over plan (settle_input a.text.now) cells _ a.out.now _ size bytes
