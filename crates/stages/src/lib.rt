@@ -1,4 +1,6 @@
 // How far a text has come: n, m, the numbers of the tables, or an answer that no further byte changes.
+#![tactic(auto)]
+
 ghost use Rattle.std.specs.Prelude.{◌≡◌};
 ghost use Rattle.stages.specs.Counting.{decided, taken_by, counted_by, faulted, one_number_more, begun, called_for, place_for, place_within, stored_at, stage_input, completed};
 
