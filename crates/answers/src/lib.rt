@@ -1,4 +1,6 @@
 // What the code asks of a verdict and of an order: whether it accepts, its number and its place; its parts, the kind first.
+#![tactic(auto)]
+
 ghost use Rattle.std.specs.Prelude.{◌≡◌};
 ghost use Rattle.definitions.specs.Answers.{refusal_of, number_of, place_of, is_none, parts_of};
 

@@ -1,4 +1,6 @@
 // Who is turned away: judges counts, a number of results, a bid alone, a whole book, and the cells of a sheet.
+#![tactic(auto)]
+
 ghost use Rattle.std.specs.Prelude.{◌≡◌, ◌&&◌, [], ◌*◌, ◌≤◌, eqb, length};
 ghost use Rattle.definitions.specs.Limits.{bid_limit, pool_limit, cell_count, bid_numbers};
 ghost use Rattle.definitions.specs.Arithmetic.{within};

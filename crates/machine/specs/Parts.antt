@@ -1,4 +1,4 @@
--- What an order's kind makes of its numbers: a step is one store of that (one_store), and an order that runs names cells of the sheet (runnable-parts).
+-- What an order's kind makes of its numbers: a step is one store of that (`one_store`), and an order that runs names cells of the sheet (`runnable_parts`).
 use Rattle.std.specs.Prelude.{ℕ, zero, suc, ◌<◌, ◌≡◌, refl, true, ◌&&◌, List, eqb, ltb, length, set}
 use Rattle.std.proofs.Common.{arith, eqb-true, ltb-true}
 use Rattle.definitions.specs.declared.Order.{Order}

@@ -1,4 +1,6 @@
 // The machine: one order on the sheet.
+#![tactic(auto)]
+
 ghost use Rattle.std.specs.Prelude.{◌≡◌, true, ◌<◌, length};
 ghost use Rattle.definitions.specs.Limits.{cell_count, modulus};
 ghost use Rattle.definitions.specs.Machine.{step_of, plus, minus, times, less_than, same_as};

@@ -1,4 +1,6 @@
 // Opening: copies the signed readings of the result cells.
+#![tactic(auto)]
+
 ghost use Rattle.std.specs.Prelude.{◌≡◌, map, ℕ, ◌+◌, ◌<◌, ◌≤◌, length, take, drop};
 ghost use Rattle.definitions.specs.Limits.{bid_limit, pool_limit, cell_count, modulus};
 ghost use Rattle.definitions.specs.Arithmetic as arithmetic;

@@ -1,4 +1,4 @@
--- A negative number raised by p: it fits (raised-fits), and its sign tells its residue (raised). A number that is not negative is its own residue (plain).
+-- A negative number raised by p: it fits (`raised_fits`), and its sign tells its residue (`raised`). A number that is not negative is its own residue (`plain`).
 use Prim.Native.Nat.{ℕ, suc, ◌-◌, ◌<◌, ◌^◌}
 use mathlib.Core.Path.{◌≡◌, refl}
 use mathlib.Core.Bool.{Bool, true, false, cond, true≢false}

@@ -1,4 +1,4 @@
--- A whole number of size at most 1,073,741,823 has a residue below p (residue-below) and is read back from it (reading-residue).
+-- A whole number of size at most 1,073,741,823 has a residue below p (`residue_below`) and is read back from it (`reading_residue`).
 use Rattle.std.specs.Prelude.{ℕ, suc, ◌-◌, ◌<◌, ◌≤◌, ◌≡◌, refl, cond, ltb, ℤ, pos, negsuc, ◌-ℤ◌, nat_abs}
 use Rattle.std.proofs.Common.{ap, ◌∙◌, arith, lt-ltb, le-ltb}
 use Rattle.definitions.specs.Limits.{modulus, greatest_positive}

@@ -1,4 +1,6 @@
 // Whole numbers as residues modulo p, and back.
+#![tactic(auto)]
+
 ghost use Rattle.std.specs.Prelude.{◌≡◌};
 ghost use Rattle.definitions.specs.Arithmetic as arithmetic;
 ghost use Rattle.residues.specs.Residues.{read};

@@ -1,4 +1,6 @@
 // Sealing: writes a book that is not refused into the sheet.
+#![tactic(auto)]
+
 ghost use Rattle.std.specs.Prelude.{◌≡◌, map, ℕ, ◌+◌, ◌-◌, ◌≤◌, length, replicate};
 ghost use Rattle.definitions.specs.Limits.{cell_count};
 ghost use Rattle.definitions.specs.Arithmetic as arithmetic;

@@ -1,6 +1,8 @@
 // The size of a number, and sums over bids and lines: what changes hands in a pool, and the welfare of accepted amounts.
 // Other crates sum what they have judged. Where counts or lengths do not fit, every sum here is 0; welfare also where an amount is above the limit on
 // a bid's size.
+#![tactic(auto)]
+
 ghost use Rattle.std.specs.Prelude.{◌≡◌, map, nat_abs};
 ghost use Rattle.sums.specs.Pools.{PoolSummed};
 ghost use Rattle.sums.specs.SummedWelfare.{summed_welfare};

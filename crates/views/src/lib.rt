@@ -1,4 +1,6 @@
 // Views: what one holder is shown of opened results.
+#![tactic(auto)]
+
 ghost use Rattle.std.specs.Prelude.{◌≡◌, ◌<◌, length};
 ghost use Rattle.definitions.specs.Answers.{refusal_of};
 ghost use Rattle.definitions.specs.Calls.{result_at};

@@ -1,5 +1,7 @@
 // The input as words of four bytes, lowest byte first, and the slices among them, each behind its length.
 // Every function here takes any input. Whether an input is that of a call is asked once, by `is_call` or `is_call_with_bytes`, before anything of it is used.
+#![tactic(auto)]
+
 ghost use Rattle.std.specs.Prelude.{◌≡◌, ℕ, ◌<◌, ◌≤◌, ◌-◌, ◌%◌, length, get_or, pos};
 ghost use Rattle.words.specs.Words.{word_room, word_at, signed_word, entry_at, slice_length, after_slice, after_slices, are_bytes, after_bytes, ends_at, is_call, is_call_with_bytes};
 

@@ -1,5 +1,4 @@
--- `copy_readings` meets its contract. The loop's invariant: i readings stand in `out`. The measure is what is left of it.
-use Prim.Native.Nat.{◌-◌}
+-- `copy_readings` meets its contract: each turn writes one reading.
 use mathlib.Core.Path.{◌≡◌, sym, ◌∙◌}
 use mathlib.Core.List.{List}
 use native.Mathlib.Omega.{arith}

@@ -1,4 +1,4 @@
--- `copy_readings` meets its contract. The loop's invariant: i readings stand in `out`. The measure is what is left of it.
+-- Invariant: i readings stand in `out`. Measure: what is left of it.
 use Prim.Native.Nat.{◌-◌}
 use lib.ListN.{length}
 use Rattle.laws.specs.Write.{WrittenSoFar}

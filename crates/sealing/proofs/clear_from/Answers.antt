@@ -1,4 +1,4 @@
--- Invariant: the cells from `at` up to c hold 0, the others what they held. Measure: how many cells are left.
+-- `clear_from` meets its contract: each turn clears one cell.
 use Prim.Native.Nat.{ℕ, ◌+◌, ◌-◌, ◌<◌, ◌≤◌}
 use mathlib.Core.Path.{◌≡◌, sym, ap, ◌∙◌}
 use mathlib.Core.List.{List}

@@ -1,5 +1,5 @@
--- Invariant: the first i residues are written. Measure: how many numbers are left.
-use Prim.Native.Nat.{◌+◌, ◌-◌, ◌<◌}
+-- `write_residues` meets its contract: each turn writes one residue.
+use Prim.Native.Nat.{◌+◌, ◌<◌}
 use mathlib.Core.Path.{sym, ap, ◌∙◌}
 use mathlib.Core.List.{map}
 use native.Mathlib.Omega.{arith}

@@ -7,6 +7,5 @@ use Rattle.sums.proofs.welfare.Goals as goal
 pub returns-then-not-do_amounts_fit : goal.returns-then-not-do_amounts_fit
 unfolding summed_welfare
 returns-then-not-do_amounts_fit c =
-    let s = c.before.before.before in
-    let no : amounts_fit s.args.bids.now s.args.accepted.now ≡ false = sym c.do_amounts_fit.ensures ∙ c.if-not-do_amounts_fit.true in
+    let no : amounts_fit c.args.bids.now c.args.accepted.now ≡ false = sym c.do_amounts_fit.ensures ∙ c.if-not-do_amounts_fit.true in
     rw no refl

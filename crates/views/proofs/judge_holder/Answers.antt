@@ -1,5 +1,4 @@
--- `judge_holder` meets its contract. Invariant: the holder is among all exactly if it is among those from i on. Measure: how many they are.
-use Prim.Native.Nat.{◌-◌}
+-- `judge_holder` meets its contract: each turn asks one holder.
 use mathlib.Core.Path.{sym, ap, ◌∙◌}
 use mathlib.Core.Bool.{Bool, cond}
 use native.Mathlib.Omega.{arith}

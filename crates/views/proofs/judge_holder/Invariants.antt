@@ -1,4 +1,4 @@
--- `judge_holder` meets its contract. Invariant: the holder is among all exactly if it is among those from i on. Measure: how many they are.
+-- Invariant: the holder is among all exactly if it is among those from i on. Measure: how many they are.
 use Prim.Native.Nat.{◌-◌, ◌≤◌}
 use mathlib.Core.Path.{◌≡◌}
 use lib.ListN.{length, drop}

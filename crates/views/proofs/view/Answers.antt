@@ -1,7 +1,7 @@
 -- `view` meets its contract: a refusal writes nothing, and what is accepted meets what writing requires.
 use Prim.Native.Nat.{ℕ}
 use mathlib.Core.Path.{◌≡◌, sym, ap, ◌∙◌}
-use mathlib.Core.Bool.{false, ◌&&◌}
+use mathlib.Core.Bool.{false, ◌&&◌, not}
 use mathlib.Core.List.{List}
 use lib.Dec.{eqb}
 use lib.IntN.{ℤ}
@@ -13,9 +13,8 @@ use Rattle.definitions.specs.Views.{holder_refusal, view_refusal, view_of, view_
 use Rattle.laws.specs.Tests.{and_right}
 use Rattle.laws.specs.Refusal.{test_passed, first_left, first_right, unless_none, unless_refused}
 use Rattle.laws.specs.Search.{turned_away, let_through}
-use mathlib.Core.Bool.{not}
 use Rattle.views.proofs.view.Goals as goal
-use Rattle.views.proofs.view.Goals.{Else-not-is_accepted, Start}
+use Rattle.views.proofs.view.Goals.{Else-not-is_accepted}
 
 same_length : (n m : ℕ) (table : List ℕ) (holder results view : ℕ) → view_refusal n m table holder results view ≡ none → view ≡ results
 unfolding view_refusal
@@ -24,25 +23,33 @@ same_length n m table holder results view e =
     let passed = test_passed test 3 0 (first_left (length_refusal test) (holder_refusal table holder) (first_right (results_refusal n m results) _ e)) in
     eqb-true _ _ (and_right (eqb (length table) n) _ passed)
 
-abbrev asked : Start → Refusal
-asked s = view_refusal s.args.n s.args.m s.args.table.now s.args.holder (length s.args.results.now) (length s.args.out.now)
+module _ (n m : ℕ) (table : List ℕ) (holder : ℕ) (results out : List ℤ) where
+  -- what is asked before the view is written
+  abbrev asked : Refusal
+  asked = view_refusal n m table holder (length results) (length out)
 
-abbrev shown : Start → List ℤ
-shown s = view_of s.args.table.now s.args.holder s.args.results.now
+  kept : is_none asked ≡ false → out ≡ view_slice n m table holder results out
+  unfolding view_slice
+  kept e = sym (unless_refused asked (view_of table holder results) out e)
+
+  written : asked ≡ none → view_of table holder results ≡ view_slice n m table holder results out
+  unfolding view_slice
+  written e = sym (unless_none asked (view_of table holder results) out (ap is_none e))
 
 pub returns-then-not-is_accepted-clause-shown : goal.returns-then-not-is_accepted-clause-shown
-unfolding view_slice
 returns-then-not-is_accepted-clause-shown c =
-    let judged = c.judge_view-verdict.ensures in
-    let refused : is_none (asked c.before.before.before.before.before) ≡ false = turned_away {asked = asked c.before.before.before.before.before} judged c.is_accepted.ensures (ap not c.if-not-is_accepted.true) in sym (unless_refused (asked c.before.before.before.before.before) (shown c.before.before.before.before.before) c.args.out.now refused)
+    let a = c.args in
+    kept a.n a.m a.table.now a.holder a.results.now a.out.now
+    (turned_away {asked = asked a.n a.m a.table.now a.holder a.results.now a.out.now} c.judge_view-verdict.ensures c.is_accepted.ensures (ap not c.if-not-is_accepted.true))
 
-passed : (c : Else-not-is_accepted) → asked c.before.before.before.before.before ≡ none
+passed : (c : Else-not-is_accepted) → let a = c.args in asked a.n a.m a.table.now a.holder a.results.now a.out.now ≡ none
 passed c = let_through c.judge_view-verdict.ensures c.is_accepted.ensures (ap not c.if-not-is_accepted.false)
 
 pub write_view-requires : goal.write_view-requires
 write_view-requires c = same_length _ _ _ _ _ _ (passed (goal.at.write_view-requires c).Else-not-is_accepted)
 
 pub returns-clause-shown : goal.returns-clause-shown
-unfolding view_slice
 returns-clause-shown c =
-    c.write_view.ensures ∙ sym (unless_none (asked c.before.before.before.before.before.before.before.before) (shown c.before.before.before.before.before.before.before.before) c.args.out.now (ap is_none (passed (goal.at.returns-clause-shown c).Else-not-is_accepted)))
+    let a = c.args in
+    c.write_view.ensures
+    ∙ written a.n a.m a.table.now a.holder a.results.now a.out.now (passed (goal.at.returns-clause-shown c).Else-not-is_accepted)

@@ -1,5 +1,4 @@
--- `write_view` meets its contract. The invariant: i numbers of the view stand in `out`. The measure is what is left of it.
-use Prim.Native.Nat.{◌-◌}
+-- `write_view` meets its contract: each turn writes one number of the view.
 use mathlib.Core.Path.{◌≡◌, sym, ◌∙◌}
 use mathlib.Core.List.{List}
 use lib.IntN.{ℤ, pos}

@@ -1,4 +1,4 @@
--- `write_view` meets its contract. The invariant: i numbers of the view stand in `out`. The measure is what is left of it.
+-- Invariant: i numbers of the view stand in `out`. Measure: what is left of it.
 use Prim.Native.Nat.{◌-◌}
 use lib.ListN.{length}
 use Rattle.definitions.specs.Views.{view_of}

@@ -13,9 +13,9 @@ returns-then-count-end c =
 
 pub overflow_add-at : goal.overflow_add-at
 overflow_add-at c =
-    let s = c.before.before.before in
+    let a = c.args in
     let e = c.after_slice-end.ensures in
-    omega (arith, e, slice_end s.args.input.now s.args.at (omega (arith, e, c.if-count-end.false)), s.well_formed.0.0)
+    omega (arith, e, slice_end a.input.now a.at (omega (arith, e, c.if-count-end.false)), c.ranges)
 
 pub returns-then-are_bytes : goal.returns-then-are_bytes
 returns-then-are_bytes c =

@@ -1,4 +1,4 @@
--- `after_slices` meets its contract. The invariant: the slices left end where all of them do. The measure is how many are left.
+-- `after_slices` meets its contract: each turn passes one slice.
 use Prim.Native.Nat.{ℕ, ◌-◌}
 use mathlib.Core.Path.{◌≡◌, sym, ap, ◌∙◌}
 use native.Mathlib.Omega.{arith}

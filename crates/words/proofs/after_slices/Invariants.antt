@@ -1,5 +1,4 @@
--- `after_slices` meets its contract. The invariant: the slices left end where all of them do. The measure is how many are left.
-use Prim.Native.Nat.{◌-◌}
+-- Invariant: the slices left end where all of them do. Measure: how many are left.
 use mathlib.Core.Path.{◌≡◌}
 use Rattle.words.specs.Words.{after_slices}
 use Rattle.words.proofs.after_slices.Given as goal

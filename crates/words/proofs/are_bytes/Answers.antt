@@ -1,5 +1,4 @@
--- `are_bytes` meets its contract. The invariant: what is asked of all words is what is asked of those left. The measure is how many are left.
-use Prim.Native.Nat.{◌-◌}
+-- `are_bytes` meets its contract: each turn asks one word.
 use mathlib.Core.Path.{sym, ◌∙◌}
 use native.Mathlib.Omega.{arith}
 use Rattle.words.proofs.Positions.{none_left, one_byte, no_byte}

@@ -1,4 +1,4 @@
--- `are_bytes` meets its contract. The invariant: what is asked of all words is what is asked of those left. The measure is how many are left.
+-- Invariant: what is asked of all words is what is asked of those left. Measure: how many are left.
 use Prim.Native.Nat.{◌-◌}
 use mathlib.Core.Path.{◌≡◌}
 use Rattle.words.specs.Words.{are_bytes}

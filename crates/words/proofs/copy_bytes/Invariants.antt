@@ -1,4 +1,4 @@
--- `copy_bytes` meets its contract. The invariant: the first i entries are copied. The measure is the places left.
+-- Invariant: the first i entries are copied. Measure: the places left.
 use Prim.Native.Nat.{ℕ, ◌-◌, ◌<◌, ◌≤◌, ◌%◌}
 use mathlib.Core.Path.{◌≡◌}
 use lib.ListN.{length, get_or}

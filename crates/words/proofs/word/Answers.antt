@@ -8,7 +8,4 @@ returns-then-input-k c = sym (word_behind _ _ c.if-input-k.true)
 
 pub returns : goal.returns
 returns c =
-    let third = c.before.before in
-    let second = third.before.before in
-    let first = second.before.before in
-    word_within _ _ _ _ _ _ first.if-input-k.false first.digit-first.ensures.0 second.digit-second.ensures.0 third.digit-third.ensures.0 c.digit-fourth.ensures.0
+    word_within _ _ _ _ _ _ c.if-input-k.false c.digit-first.ensures.0 c.digit-second.ensures.0 c.digit-third.ensures.0 c.digit-fourth.ensures.0

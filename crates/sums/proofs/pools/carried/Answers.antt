@@ -1,5 +1,5 @@
--- `carried` meets its contract. The loop's invariant: what the lines passed carry. The measure is how many are left.
-use Prim.Native.Nat.{ℕ, ◌+◌, ◌*◌, ◌-◌, ◌^◌, ◌≤◌}
+-- `carried` meets its contract: each turn adds the size of one line's flow.
+use Prim.Native.Nat.{ℕ, ◌+◌, ◌*◌, ◌^◌, ◌≤◌}
 use mathlib.Core.Path.{◌≡◌, ap, ◌∙◌}
 use mathlib.Core.List.{List}
 use native.Mathlib.Omega.{arith}
@@ -11,7 +11,7 @@ use Rattle.laws.specs.IntegerSize.{size_fits}
 use Rattle.laws.specs.SignedTests.{widened}
 use Rattle.sums.proofs.Summing.{summing_begins, summing_turn}
 use Rattle.sums.proofs.pools.carried.Goals as goal
-use Rattle.sums.proofs.pools.carried.Goals.{After-flow-1, After-size-total}
+use Rattle.sums.proofs.pools.carried.Goals.{After-size-total}
 
 -- what line k carries
 abbrev added : (first step : ℕ) → List ℤ → ℕ → ℕ
@@ -21,18 +21,17 @@ pub loop-k-init : goal.loop-k-init
 loop-k-init c = (omega arith, summing_begins _)
 
 -- the flow of this turn, and its size
-abbrev flow : After-flow-1 → ℤ
+abbrev flow : After-size-total → ℤ
 flow c =
-    let a = c.args in
-    get_or a.flows.now (c.loop-k.k * a.step + a.first) (pos 0)
+    get_or c.args.flows.now (c.loop-k.k * c.args.step + c.args.first) (pos 0)
 
 part_is : (c : After-size-total) →
     let a = c.args in
     c.size-total.result ≡ added a.first a.step a.flows.now c.loop-k.k
-part_is c = c.size-total.ensures ∙ ap nat_abs (widened {z = flow c.before} (sfits_of c.flow-1.given))
+part_is c = c.size-total.ensures ∙ ap nat_abs (widened {z = flow c} (sfits_of c.flow-1.given))
 
 part_small : (c : After-size-total) → c.size-total.result ≤ 2 ^ 31
-part_small c = omega (arith, part_is c, size_fits w32 (flow c.before) (sfits_of c.flow-1.given))
+part_small c = omega (arith, part_is c, size_fits w32 (flow c) (sfits_of c.flow-1.given))
 
 pub loop-k-preserved : goal.loop-k-preserved
 loop-k-preserved c = (omega arith, summing_turn c.loop-k.invariant.1 _ (part_is c) (part_small c))

@@ -1,4 +1,4 @@
--- `carried` meets its contract. The loop's invariant: what the lines passed carry. The measure is how many are left.
+-- Invariant: what the lines passed carry. Measure: how many are left.
 use Prim.Native.Nat.{ℕ, ◌+◌, ◌*◌, ◌-◌, ◌≤◌}
 use mathlib.Core.List.{List}
 use lib.IntN.{ℤ, pos, nat_abs}

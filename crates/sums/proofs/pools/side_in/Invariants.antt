@@ -1,4 +1,4 @@
--- `side_in` meets its contract. The loop's invariant: what the bids passed add. The measure is how many are left.
+-- Invariant: what the bids passed add. Measure: how many are left.
 use Prim.Native.Nat.{◌-◌, ◌≤◌}
 use lib.ListN.{length}
 use Rattle.sums.specs.Pools.{added_by}

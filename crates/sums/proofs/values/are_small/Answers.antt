@@ -1,5 +1,5 @@
--- `are_small` meets its contract. The invariant: the amounts passed are small. The measure is how many are left.
-use Prim.Native.Nat.{ℕ, ◌-◌}
+-- `are_small` meets its contract: each turn asks one amount.
+use Prim.Native.Nat.{ℕ}
 use mathlib.Core.Path.{◌≡◌, sym, ap, ◌∙◌}
 use mathlib.Core.Bool.{Bool}
 use mathlib.Core.List.{List}

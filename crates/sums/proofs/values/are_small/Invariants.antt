@@ -1,4 +1,4 @@
--- `are_small` meets its contract. The invariant: the amounts passed are small. The measure is how many are left.
+-- Invariant: the amounts passed are small. Measure: how many are left.
 use Prim.Native.Nat.{ℕ, ◌-◌, ◌≤◌}
 use mathlib.Core.Path.{◌≡◌}
 use mathlib.Core.Bool.{Bool, true}

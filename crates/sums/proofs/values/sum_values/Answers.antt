@@ -1,6 +1,5 @@
--- `sum_values` meets its contract. The loop's invariant: the total is the sum of the signed values of the bids passed, each of which is bounded
--- by its amount's limit and by the 32 bits of its price. The measure is the number of bids left.
-use Prim.Native.Nat.{ℕ, ◌+◌, ◌*◌, ◌-◌, ◌^◌, ◌≤◌, ◌<◌}
+-- `sum_values` meets its contract: each turn adds one bid's signed value, which is bounded by its amount's limit and by the 32 bits of its price.
+use Prim.Native.Nat.{ℕ, ◌+◌, ◌*◌, ◌^◌, ◌≤◌, ◌<◌}
 use mathlib.Core.Path.{◌≡◌, refl, sym, ap, ap₂, ◌∙◌, subst}
 use mathlib.Core.List.{List}
 use native.Mathlib.Omega.{arith}
@@ -74,10 +73,9 @@ onward c =
 -- its size
 onward_size : (c : After-signed_value-value) → nat_abs (sum_after c) ≤ (c.loop-i.i + 1) * bound
 onward_size c =
-    let s = c in
     let l = c.loop-i in
-    let bids = s.args.bids.now in
-    let accepted = s.args.accepted.now in
+    let bids = c.args.bids.now in
+    let accepted = c.args.accepted.now in
     let price : ℤ = get_or bids (bid_numbers * l.i + price_place) (pos 0) in
     subst (λ (z : ℤ). nat_abs z ≤ (l.i + 1) * bound) (sym (sum_z_next l.i (added bids accepted)))
     (omega (
@@ -91,9 +89,8 @@ onward_size c =
 
 fitting : (c : After-signed_value-value) → SFits w64 (sum_after c)
 fitting c =
-    let s = c in
-    let l : c.loop-i.i < length s.args.accepted.now = c.loop-i-test.true in
-    fits_size w64 _ (omega (arith, onward_size c, (ready_here c).few, l))
+    let here : c.loop-i.i < length c.args.accepted.now = c.loop-i-test.true in
+    fits_size w64 _ (omega (arith, onward_size c, (ready_here c).few, here))
 
 pub overflow_add-total : goal.overflow_add-total
 overflow_add-total c = subst (SFits w64) (sym (onward c)) (fitting c)

@@ -1,11 +1,9 @@
--- `sum_values` meets its contract. The loop's invariant: the total is the sum of the signed values of the bids passed, each of which is bounded
+-- Invariant: the total is the sum of the signed values of the bids passed, and that sum is bounded. Measure: how many bids are left.
 use Prim.Native.Nat.{ℕ, ◌*◌, ◌-◌, ◌^◌, ◌≤◌}
 use mathlib.Core.Path.{◌≡◌}
 use mathlib.Core.List.{List}
 use lib.IntN.{ℤ, nat_abs}
 use lib.ListN.{length, get_or}
-use mir.Syntax.{w64}
-use mir.Val.{to_z}
 use Rattle.definitions.specs.Limits.{quantity_limit}
 use Rattle.definitions.specs.Arithmetic.{sum_z}
 use Rattle.sums.specs.BidsOnly.{bids_only}

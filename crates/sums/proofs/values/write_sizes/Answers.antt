@@ -1,5 +1,4 @@
--- `write_sizes` meets its contract. The invariant: i sizes stand in `sizes`. The measure is what is left of it.
-use Prim.Native.Nat.{◌-◌}
+-- `write_sizes` meets its contract: each turn writes the size of one number.
 use mathlib.Core.Path.{◌≡◌, sym, ap, ◌∙◌}
 use mathlib.Core.List.{map}
 use lib.IntN.{ℤ, pos, nat_abs}
@@ -8,17 +7,17 @@ use borrow.Author.Rules.{sfits_of}
 use Rattle.laws.specs.SignedTests.{widened}
 use Rattle.laws.specs.Write.{writing_turn}
 use Rattle.sums.proofs.values.write_sizes.Goals as goal
-use Rattle.sums.proofs.values.write_sizes.Goals.{After-number-1, After-size, Start}
+use Rattle.sums.proofs.values.write_sizes.Goals.{After-size, Start}
 
 source_length : (s : Start) → length (map nat_abs s.args.numbers.now) ≡ length s.args.sizes.now
 source_length s = length-map s.args.numbers.now nat_abs ∙ sym s.requires
 
--- the number of this turn, and its size
-abbrev number : After-number-1 → ℤ
+-- the size of this turn's number
+abbrev number : After-size → ℤ
 number c = get_or c.args.numbers.now c.loop-i.i (pos 0)
 
-sized : (c : After-size) → c.size.result ≡ nat_abs (number c.before)
-sized c = c.size.ensures ∙ ap nat_abs (widened {z = number c.before} (sfits_of c.number-1.given))
+sized : (c : After-size) → c.size.result ≡ nat_abs (number c)
+sized c = c.size.ensures ∙ ap nat_abs (widened {z = number c} (sfits_of c.number-1.given))
 
 pub loop-i-preserved : goal.loop-i-preserved
 loop-i-preserved c =

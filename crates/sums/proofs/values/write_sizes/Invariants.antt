@@ -1,4 +1,4 @@
--- `write_sizes` meets its contract. The invariant: i sizes stand in `sizes`. The measure is what is left of it.
+-- Invariant: i sizes stand in `sizes`. Measure: what is left of it.
 use Prim.Native.Nat.{◌-◌}
 use mathlib.Core.List.{map}
 use lib.IntN.{nat_abs}
