@@ -13,7 +13,7 @@ use stages::{Input, Stage, answer, is_over, place, store, take_word};
 
 // What was read of a text: the word that is not yet ended, and the stage that the words before it led to. Only their types are public, so that
 // a caller's own types may hold a reader.
-#[derive(Drop)]
+#[derive(Clone, Copy)]
 pub struct Reader {
     word: Word,
     stage: Stage,
