@@ -21,7 +21,7 @@ use Rattle.plan.specs.Plan.{plan}
 use Rattle.clearing.specs.PlanClears.{plan_outcome}
 use Rattle.orders.specs.Runs.{stepped_plan, stepped_plan_is}
 use Rattle.clearing.specs.Amounts.{AmountsOnSheet}
-use Rattle.plan.specs.SealedSheet.{sealed_is_sheet}
+use Rattle.plan.proofs.SealedSheet.{sealed_is_sheet}
 
 module _ (B : Book) (lent : List ℕ) where
   -- ---- refused

@@ -18,11 +18,11 @@ use Rattle.laws.specs.AcceptedBook.{accepted_sound}
 use Rattle.theory.specs.BestClearing.{best_welfare, welfare_of_best}
 use Rattle.runner.specs.Runs.{RunsAs, orders_bytes_run}
 use Rattle.plan.specs.Plan.{plan}
-use Rattle.plan.specs.PlanOrders.{plan_orders, plan_length_limit}
-use Rattle.plan.specs.Asking.{asked_at_end}
-use Rattle.plan.specs.Collected.{collected_plan}
+use Rattle.plan.proofs.PlanOrders.{plan_orders, plan_length_limit}
+use Rattle.plan.proofs.Asking.{asked_at_end}
+use Rattle.plan.proofs.Collected.{collected_plan}
 use Rattle.clearing.specs.PlanClears.{plan_outcome}
-use Rattle.plan.specs.SealedSheet.{sealed_is_sheet}
+use Rattle.plan.proofs.SealedSheet.{sealed_is_sheet}
 
 -- One list of orders clears book A.
 pub record ClearedBy (orders : List Order) (A : Book) : Type 0 where

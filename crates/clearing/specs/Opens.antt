@@ -14,8 +14,8 @@ use Rattle.laws.specs.AcceptedBook.{Sound, accepted_sound}
 use Rattle.judging.specs.Cells.{sheet_accepted}
 use Rattle.machine.specs.Run.{run_sheet_lem}
 use Rattle.plan.specs.Plan.{plan}
-use Rattle.plan.specs.PlanOrders.{plan_orders}
-use Rattle.plan.specs.SealedSheet.{sealed_is_sheet}
+use Rattle.plan.proofs.PlanOrders.{plan_orders}
+use Rattle.plan.proofs.SealedSheet.{sealed_is_sheet}
 
 module _ (B : Book) (accepted : AcceptedBook B) where
   pub run_is_sheet : IsSheet (plan_run plan B)

@@ -13,8 +13,8 @@ use Rattle.laws.specs.AcceptedBook.{Sound, accepted_sound}
 use Rattle.theory.specs.FlowOrder.{FirstFlows}
 use Rattle.theory.specs.ClosedBest.{closed_clearing_lem, closed_price_lem}
 use Rattle.plan.specs.Plan.{plan}
-use Rattle.plan.specs.AnExample.{three_pools, three_pools_cleared, example_run}
-use Rattle.plan.specs.Cleared.{HoldsClearing, plan_clears}
+use Rattle.plan.proofs.AnExample.{three_pools, three_pools_cleared, example_run}
+use Rattle.plan.proofs.Cleared.{HoldsClearing, plan_clears}
 
 module _ (B : Book) (accepted : AcceptedBook B) where
   sound : Sound B

@@ -10,7 +10,7 @@ use Rattle.definitions.specs.Outcome.{order_limit}
 use Rattle.definitions.specs.Plan.{lowest_first, Written, written_counts, count_bytes, total_refusal, total_slice, bytes_refusal, counts_slice, longest_order, number_size}
 use Rattle.laws.specs.Sizes.{counted}
 use Rattle.plan.specs.Plan.{plan}
-use Rattle.plan.specs.PlanOrders.{plan_length_limit}
+use Rattle.plan.proofs.PlanOrders.{plan_length_limit}
 use Rattle.orders.specs.Calls.{write_within}
 use Rattle.walk.specs.Sequence.{orders_within, bytes_within}
 use Rattle.host.specs.Calls.{total_counts, total_given, bytes_writing, counts_given}

@@ -5,7 +5,8 @@ use Rattle.std.proofs.Math.ListN.{get_or-eq_default}
 use Rattle.laws.specs.Tests.{Lt?, less, more, lt?}
 use Rattle.plan.specs.declared.Family.{Family}
 use Rattle.plan.specs.declared.Family.TheVariants.{Bids}
-use Rattle.plan.specs.Names.{families, number, at_number, family_count, family_at}
+use Rattle.plan.specs.Names.{families, number, family_count, family_at}
+use Rattle.plan.proofs.NameFacts.{at_number}
 
 -- the numbers from k on, so many of them
 up_from : (k count : ℕ) → List ℕ

@@ -20,7 +20,7 @@ use Rattle.plan.specs.Loops.{loop}
 use Rattle.plan.specs.Phased.{flat, part_at}
 use Rattle.plan.specs.Table.{Phase, table}
 use Rattle.plan.specs.Plan.{cell_of, plan}
-use Rattle.plan.specs.PlanOrders.{plan_orders}
+use Rattle.plan.proofs.PlanOrders.{plan_orders}
 use Rattle.orders.specs.declared.names.NamedOrder.{NamedOrder}
 use Rattle.orders.specs.Walk.{named, named_of, numbered_of}
 use Rattle.orders.specs.Shaped.{InPhase, order_in, flat_in, flat_order}

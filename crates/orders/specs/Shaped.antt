@@ -18,7 +18,8 @@ use Rattle.orders.specs.declared.names.NamedOrder.{NamedOrder}
 use Rattle.orders.specs.Walk.{flat_of, named_of, named_flat, named, made, subset_lowest}
 use Rattle.plan.specs.Phased.{PartOf, part_at, part_size, row_size, phase_in, Has, has_here, in_even, block_each, even_length}
 use Rattle.plan.specs.Table.{Phase, cut_phase, table, phase_at, phase_count, table_length}
-use Rattle.plan.specs.Plan.{PlacedOrder, table_placed}
+use Rattle.plan.specs.Plan.{PlacedOrder}
+use Rattle.plan.proofs.PlanFacts.{table_placed}
 
 pub positive_right : (a b x : ℕ) → x < a * b → 0 < b
 positive_right a zero x h = absurd (omega arith)

@@ -12,7 +12,8 @@ use Rattle.orders.specs.declared.table.Shape.{Shape}
 use Rattle.orders.specs.declared.walk.Within.{Within}
 use Rattle.definitions.specs.declared.Order.{Order}
 use Rattle.definitions.specs.declared.Order.TheVariants.{Constant}
-use Rattle.plan.specs.Plan.{plan, plan_has}
+use Rattle.plan.specs.Plan.{plan}
+use Rattle.plan.proofs.PlanFacts.{plan_has}
 use Rattle.orders.specs.Walk.{numbered_of}
 use Rattle.plan.specs.Phased.{part_at, part_size, row_size, part_start, phase_size, phase_start, table_size, phase_in, row_of, all_rows, flat, flat_length, Has, in_row, in_rows, in_table}
 use Rattle.plan.specs.Table.{Phase, table, phase_at, phase_count, table_length}

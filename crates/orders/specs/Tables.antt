@@ -9,10 +9,11 @@ use Rattle.laws.specs.Sizes.{Counts}
 use Rattle.plan.specs.declared.Family.TheVariants.{Temporaries}
 use Rattle.plan.specs.declared.Place.{Place}
 use Rattle.plan.specs.Names.{number, family_count, family_at, family_place, rows_of, columns_of}
-use Rattle.plan.specs.Layout.{base_grows}
+use Rattle.plan.proofs.LayoutFacts.{base_grows}
 use Rattle.plan.specs.Phased.{phase_size}
 use Rattle.plan.specs.Table.{phase_at, phase_count}
-use Rattle.plan.specs.Plan.{from, from_scratch, from_end, names_fit, scratch_count}
+use Rattle.plan.specs.Plan.{from, scratch_count}
+use Rattle.plan.proofs.PlanFacts.{from_scratch, from_end, names_fit}
 use Rattle.orders.specs.Shaped.{phase_limit}
 
 -- the place of the family of a number

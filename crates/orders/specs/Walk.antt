@@ -8,7 +8,8 @@ use Rattle.plan.specs.Orders.{OrderOn, order_of, renamed, constant, operate, sum
 use Rattle.plan.specs.Subsets.{leaves, lowest, others}
 use Rattle.plan.specs.Running.{lowered, subset_order, subset_block}
 use Rattle.plan.specs.Blocks.{test_at, test_order, cut_turn, rest_cell, rest_turn, taken_cell, take_turn}
-use Rattle.plan.specs.Names.{number, family_at, family_count, at_number, Name, at, ZeroCell, Temporary, Capacity, Cut, Slack, Subset}
+use Rattle.plan.specs.Names.{number, family_at, family_count, Name, at, ZeroCell, Temporary, Capacity, Cut, Slack, Subset}
+use Rattle.plan.proofs.NameFacts.{at_number}
 use Rattle.plan.specs.Plan.{cell_of}
 
 -- ---- orders over names, as the code makes them

@@ -1,7 +1,6 @@
 -- The families of cells: where each stands on the sheet, how many rows and columns it has (`family_place`), and the names of its cells.
 -- What each holds is said where the code declares them, and in Values.
-use Rattle.std.specs.Prelude.{ℕ, ◌*◌, ◌^◌, ◌≡◌, refl, Bool, true, ◌&&◌, List, [], ◌∷◌, eqb, get_or}
-use Rattle.std.proofs.Common.{sym, ap, ◌∙◌, eqb-true}
+use Rattle.std.specs.Prelude.{ℕ, ◌*◌, ◌^◌, Bool, ◌&&◌, List, [], ◌∷◌, eqb, get_or}
 use Rattle.definitions.specs.Limits.{bid_numbers, price_place, quantity_place, pool_results}
 use Rattle.plan.specs.declared.Place.{Place}
 pub use Rattle.plan.specs.declared.Family.{Family}
@@ -66,45 +65,6 @@ family_count = 30
 -- family k
 abbrev pub family_at : ℕ → Family
 family_at k = get_or families k Bids
-
-pub at_number : (f : Family) → family_at (number f) ≡ f
-at_number Bids = refl
-at_number Capacities = refl
-at_number Amounts = refl
-at_number Flows = refl
-at_number Prices = refl
-at_number Temporaries = refl
-at_number ZeroCells = refl
-at_number Units = refl
-at_number Shifts = refl
-at_number PoolNumbers = refl
-at_number Sides = refl
-at_number Sizes = refl
-at_number PositivePrices = refl
-at_number Doubles = refl
-at_number Keys = refl
-at_number Nexts = refl
-at_number Memberships = refl
-at_number PoolSizes = refl
-at_number Demands = refl
-at_number Subsets = refl
-at_number Cuts = refl
-at_number SizesBefore = refl
-at_number RanksBefore = refl
-at_number SizesWith = refl
-at_number RanksWith = refl
-at_number Uses = refl
-at_number Placements = refl
-at_number Slacks = refl
-at_number Offers = refl
-at_number HighestOffers = refl
-
--- no two families have the same number
-pub number_same : (f g : Family) → number f ≡ number g → f ≡ g
-number_same f g e = sym (at_number f) ∙ ap family_at e ∙ at_number g
-
-pub family_equal : (f g : Family) → eqb (number f) (number g) ≡ true → f ≡ g
-family_equal f g e = number_same f g (eqb-true (number f) (number g) e)
 
 -- ---- names
 

@@ -15,7 +15,8 @@ use Rattle.definitions.proofs.SettleFacts.{read_two, listed_two}
 use Rattle.opening.specs.Opened.{opened_outcome}
 use Rattle.plan.specs.Plan.{plan}
 use Rattle.clearing.specs.PlanClears.{plan_outcome}
-use Rattle.examples.specs.Examples.{listed, proved_examples}
+use Rattle.examples.specs.Examples.{listed}
+use Rattle.examples.proofs.Examples.{proved_examples}
 
 -- the text printed is the listing of a best clearing with permitted flows, and of its welfare
 pub record Printed (B : Book) (text : List ℕ) : Type 0 where

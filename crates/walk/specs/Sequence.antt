@@ -22,8 +22,8 @@ use Rattle.laws.specs.Sizes.{counted}
 use Rattle.codec.specs.OrderBytes.{at_most_eight}
 use Rattle.runner.specs.Runs.{orders_bytes_run, run_leaves_sheet}
 use Rattle.plan.specs.Plan.{plan}
-use Rattle.plan.specs.PlanOrders.{plan_well_formed, plan_orders}
-use Rattle.plan.specs.Asking.{within_total}
+use Rattle.plan.proofs.PlanOrders.{plan_well_formed, plan_orders}
+use Rattle.plan.proofs.Asking.{within_total}
 use Rattle.codec.specs.Fitting.{bytes_of_both, bytes_of_none, bytes_in_parts, bytes_at_most, fits_none, fits_at_most, some_fits}
 use Rattle.orders.specs.Calls.{counts_accepted, slice_accepted}
 use Rattle.walk.specs.Walk.{Reply, goes_on, Walk, sent_before, stop_at, after_call, walk, reply_of, writer_reply, Roomy}

@@ -15,7 +15,7 @@ use Rattle.definitions.specs.Outcome.{plan_run}
 use Rattle.laws.specs.SignedTests.{back}
 use Rattle.laws.specs.Search.{turned_away, let_through}
 use Rattle.plan.specs.Plan.{plan}
-use Rattle.plan.specs.Asking.{total_accepted}
+use Rattle.plan.proofs.Asking.{total_accepted}
 use Rattle.clearing.specs.Amounts.{AmountsOnSheet}
 use Rattle.clearing.proofs.Sealing.{refused_count, refused_welfare, refused_sheet, counts_pass, count_given, welfare_given, sheet_given, amounts_within_lem, run_left}
 use mathlib.Core.Bool.{not}

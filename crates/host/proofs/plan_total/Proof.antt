@@ -7,7 +7,7 @@ use Rattle.definitions.specs.Answers.{none, number_of, refusal_of}
 use Rattle.definitions.specs.Plan.{lowest_first, total_refusal}
 use Rattle.laws.specs.Search.{turned_away, let_through}
 use Rattle.plan.specs.Plan.{plan}
-use Rattle.plan.specs.Asking.{total_accepted}
+use Rattle.plan.proofs.Asking.{total_accepted}
 use Rattle.host.proofs.Numbers.{one_number}
 use Rattle.host.specs.Calls.{total_counts, total_length, total_given, total_kept}
 use Rattle.host.proofs.plan_total.Statement.{statement}

@@ -4,7 +4,7 @@ use Rattle.definitions.specs.Answers.{none}
 use Rattle.definitions.specs.Calls.{counts_refusal}
 use Rattle.laws.specs.Search.{turned_away, let_through}
 use Rattle.plan.specs.Plan.{plan}
-use Rattle.plan.specs.Asking.{total_accepted, total_refused}
+use Rattle.plan.proofs.Asking.{total_accepted, total_refused}
 use Rattle.orders.specs.Runs.{plan_stepped, plan_not_stepped}
 use mathlib.Core.Bool.{not}
 use mathlib.Core.Path.{ap}

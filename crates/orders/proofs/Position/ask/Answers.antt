@@ -8,7 +8,7 @@ use Rattle.definitions.specs.Plan.{order, refused, ask_refusal}
 use Rattle.laws.specs.Search.{turned_away, let_through}
 use Rattle.laws.specs.Sizes.{counted}
 use Rattle.plan.specs.Plan.{plan}
-use Rattle.plan.specs.Asking.{asked_before_end}
+use Rattle.plan.proofs.Asking.{asked_before_end}
 use Rattle.orders.proofs.Answers.{asked_refused, counts_none, asked_from_end}
 use mathlib.Core.Bool.{not}
 use Rattle.orders.proofs.Position.ask.Goals as goal

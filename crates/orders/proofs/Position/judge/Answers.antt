@@ -6,7 +6,7 @@ use Rattle.definitions.specs.Calls.{counts_refusal}
 use Rattle.definitions.specs.Plan.{position_refusal, ask_refusal}
 use Rattle.laws.specs.Search.{first_to_refuse, let_through}
 use Rattle.plan.specs.Plan.{plan}
-use Rattle.plan.specs.Asking.{past_total, within_total}
+use Rattle.plan.proofs.Asking.{past_total, within_total}
 use mathlib.Core.Bool.{not}
 use mathlib.Core.Path.{ap}
 use Rattle.orders.proofs.Position.judge.Goals as goal

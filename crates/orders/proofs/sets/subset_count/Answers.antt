@@ -1,6 +1,6 @@
 -- `subset_count` meets its contract: 1 moved up by m binary digits is 2 ^ m, which is far below the width.
 use native.Mathlib.Omega.{arith}
-use Rattle.plan.specs.Plan.{power_small}
+use Rattle.plan.proofs.PlanFacts.{power_small}
 use Rattle.orders.proofs.sets.subset_count.Goals as goal
 
 pub returns : goal.returns

@@ -3,7 +3,7 @@ use mathlib.Core.Path.{◌≡◌}
 use Prim.Native.Nat.{ℕ, ◌≤◌}
 use native.Mathlib.Omega.{arith}
 use Rattle.definitions.specs.Limits.{cell_count}
-use Rattle.plan.specs.Plan.{names_fit}
+use Rattle.plan.proofs.PlanFacts.{names_fit}
 use Rattle.plan.specs.Table.{phase_at, table, work}
 use Rattle.orders.specs.declared.table.Shape.{Shape}
 use Rattle.orders.specs.Shaped.{IsShape, shaped, past}

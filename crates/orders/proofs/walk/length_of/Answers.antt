@@ -4,7 +4,7 @@ use Prim.Native.Nat.{◌+◌, ◌-◌}
 use lib.ListN.{get_or}
 use native.Mathlib.Omega.{arith}
 use Rattle.plan.specs.Table.{table, phase_at, table_length}
-use Rattle.plan.specs.Plan.{plan_length}
+use Rattle.plan.proofs.PlanFacts.{plan_length}
 use Rattle.orders.specs.Tables.{sizes_from, IsSize}
 use Rattle.orders.specs.Steps.{count_none, count_one, count_all}
 use Rattle.orders.proofs.walk.length_of.Goals as goal

@@ -5,7 +5,7 @@ use lib.ListN.{length, get_or}
 use native.Mathlib.Omega.{arith}
 use Rattle.plan.specs.Phased.{flat_length}
 use Rattle.plan.specs.Table.{table, phase_at, phase_count, table_length}
-use Rattle.plan.specs.Plan.{plan_length}
+use Rattle.plan.proofs.PlanFacts.{plan_length}
 use Rattle.orders.specs.Tables.{sizes_from, IsSize}
 use Rattle.orders.specs.Steps.{phase_left, phases_one}
 use Rattle.orders.proofs.walk.phase_from.Goals as goal

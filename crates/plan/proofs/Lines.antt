@@ -15,16 +15,18 @@ use Rattle.laws.specs.AcceptedBook.{pool_index, Sound}
 use Rattle.theory.specs.ClosedBest.{size_total, amount_limit, placement_small, placement_cut, cut_small, slack_small, taken_slack, flow_and_rest}
 use Rattle.plan.specs.Orders.{constant, sum, difference, run, State}
 use Rattle.plan.specs.Residues.{plus_small, minus_small, times_on, min_small}
-use Rattle.plan.specs.Loops.{loop, named_run_append, loop_invariant, among, writes, writes_append, writes_loop, keep, keep_loop, eqb_same, loop_own}
-use Rattle.plan.specs.Holds.{Holds, Phase, holds_keep, holds_part, touches, fill_column, fill_after}
+use Rattle.plan.specs.Loops.{loop, named_run_append, loop_invariant, among, writes, writes_append, writes_loop, eqb_same, loop_own}
+use Rattle.plan.proofs.LoopFacts.{keep, keep_loop}
+use Rattle.plan.proofs.Holds.{Holds, Phase, holds_keep, holds_part, touches, fill_column, fill_after}
 use Rattle.plan.specs.Names.{Family, Name, same, Capacities, ZeroCells, Memberships, Subsets, Cuts, Uses, Placements, Slacks, Flows, Temporaries, ZeroCell, Temporary, Capacity, Flow, Subset, Placement, Slack}
 use Rattle.plan.specs.Subsets.{leaves, subset_sum}
-use Rattle.plan.specs.Running.{accumulate, gather, Lowers, lower, lowered, subset_sums}
-use Rattle.plan.specs.Values.{cell_tables, cut, used_amount, placement, slack, rest_of, flow_of, taken_of, slack_after, line_flow}
+use Rattle.plan.specs.Running.{accumulate, gather, Lowers, lower, lowered}
+use Rattle.plan.proofs.RunningFacts.{subset_sums}
+use Rattle.plan.proofs.Values.{cell_tables, cut, used_amount, placement, slack, rest_of, flow_of, taken_of, slack_after, line_flow}
 use Rattle.plan.specs.Blocks.{Block, placement_turn, slack_block, rest_cell, rest_turn, taken_cell, take_turn}
 use Rattle.plan.specs.Table.{placement_block, subset_blocks, rest_block, take_block, line_block}
-use Rattle.plan.specs.Cuts.{subsets_frame}
-use Rattle.plan.specs.Bounds.{sum_limit_lem, used_small}
+use Rattle.plan.proofs.Cuts.{subsets_frame}
+use Rattle.plan.proofs.Bounds.{sum_limit_lem, used_small}
 
 -- what a line writes: of the flows only its own
 line_frame : (n m l a b : ℕ) → writes (among (Flows ∷ Temporaries ∷ Slacks ∷ [])) (rest_block n m a b ++ take_block n m l a b) ≡ true

@@ -16,17 +16,19 @@ use Rattle.laws.specs.AcceptedBook.{Sound}
 use Rattle.theory.specs.ClosedBest.{size_total, key_small, used_and_rank, used_size, size_before_small}
 use Rattle.plan.specs.Orders.{constant, run, State}
 use Rattle.plan.specs.Residues.{plus_small, minus_small, times_on, less_small, min_small}
-use Rattle.plan.specs.Loops.{loop, named_run_append, loop_invariant, among, writes, writes_append, writes_loop, keep, eqb_same, loop_own}
-use Rattle.plan.specs.Holds.{Holds, Phase, holds_keep, holds_part, touches, touches_among, fill_column, fill_rows, fill_cells}
+use Rattle.plan.specs.Loops.{loop, named_run_append, loop_invariant, among, writes, writes_append, writes_loop, eqb_same, loop_own}
+use Rattle.plan.proofs.LoopFacts.{keep}
+use Rattle.plan.proofs.Holds.{Holds, Phase, holds_keep, holds_part, touches, touches_among, fill_column, fill_rows, fill_cells}
 use Rattle.plan.specs.Names.{Family, number, Name, at, same, ZeroCells, Sides, Sizes, Doubles, Keys, Nexts, PoolSizes, Subsets, Cuts, SizesBefore, RanksBefore, SizesWith, RanksWith, Uses, Amounts, Temporaries, Temporary, PoolSize, Subset, SizeBefore, RankBefore, SizeWith, RankWith}
 use Rattle.plan.specs.Subsets.{member, complement, subset_sum, subset_outside}
-use Rattle.plan.specs.Running.{Lowers, lower, subset_sums}
-use Rattle.plan.specs.Values.{cell_tables, positive_price, key, pool_size, cut, size_before, size_with, rank, used_amount, accepted_amount}
+use Rattle.plan.specs.Running.{Lowers, lower}
+use Rattle.plan.proofs.RunningFacts.{subset_sums}
+use Rattle.plan.proofs.Values.{cell_tables, positive_price, key, pool_size, cut, size_before, size_with, rank, used_amount, accepted_amount}
 use Rattle.plan.specs.Blocks.{Block, test_at, test_order, gain_turn, size_before_start, cost_turn, size_with_block, use_block, amount_block}
 use Rattle.plan.specs.Table.{size_before_turn, size_before_block, subset_blocks, cost_block, rank_block}
-use Rattle.plan.specs.Merit.{key_test, test_is_before}
-use Rattle.plan.specs.Cuts.{subsets_frame}
-use Rattle.plan.specs.Bounds.{sum_limit_lem, pool_size_small, size_with_small, set_cost_small, rank_small}
+use Rattle.plan.proofs.Merit.{key_test, test_is_before}
+use Rattle.plan.proofs.Cuts.{subsets_frame}
+use Rattle.plan.proofs.Bounds.{sum_limit_lem, pool_size_small, size_with_small, set_cost_small, rank_small}
 
 accept_small : (t : Bool) (v x : ℕ) → x ≤ v → v ≤ quantity_limit → plus x (times (minus (minus v x) x) (on t 1)) ≡ cond t (v - x) x
 accept_small true v x h k =

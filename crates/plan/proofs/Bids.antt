@@ -9,9 +9,9 @@ use Rattle.laws.specs.AcceptedBook.{pool_index, raised_price, Sound}
 use Rattle.theory.specs.ClosedBest.{key_small}
 use Rattle.plan.specs.Residues.{plus_small, times_on, positive_residue, size_residue, raise_residue}
 use Rattle.plan.specs.Loops.{loop, eqb_same}
-use Rattle.plan.specs.Holds.{Phase, fill_column, fill_cells}
+use Rattle.plan.proofs.Holds.{Phase, fill_column, fill_cells}
 use Rattle.plan.specs.Names.{Bids, ZeroCells, Units, Shifts, PoolNumbers, Sides, Sizes, PositivePrices, Doubles, Keys, Nexts, Memberships, PoolSizes, Temporaries}
-use Rattle.plan.specs.Values.{cell_tables, positive_price, side}
+use Rattle.plan.proofs.Values.{cell_tables, positive_price, side}
 use Rattle.plan.specs.Blocks.{unit_block, shift_block, pool_number_block, side_block, size_block, positive_price_block, double_block, key_block, next_block, membership_block, pool_size_block}
 
 module _ (B : Book) (sound : Sound B) where

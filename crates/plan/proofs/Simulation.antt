@@ -7,7 +7,8 @@ use Rattle.std.proofs.Math.ListN.{length, length-set}
 use Rattle.definitions.specs.Machine.{cell, step_of, run_of}
 use Rattle.plan.specs.Orders.{OrderOn, constant, operate, target, outcome, result, order_of, step_is, renamed, State, update, step, run}
 use Rattle.plan.specs.Names.{Name, same}
-use Rattle.plan.specs.Loops.{same_self, same_equal}
+use Rattle.plan.specs.Loops.{same_self}
+use Rattle.plan.proofs.LoopFacts.{same_equal}
 use Rattle.plan.specs.Entries.{All}
 
 -- ---- the run of a list of the unit's orders

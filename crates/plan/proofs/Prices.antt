@@ -12,13 +12,13 @@ use Rattle.theory.specs.ClosedBest.{highest_offer_small}
 use Rattle.plan.specs.Orders.{constant, run, State}
 use Rattle.plan.specs.Residues.{times_on, on_times, less_small, max_small}
 use Rattle.plan.specs.Loops.{loop, writes_loop, eqb_same}
-use Rattle.plan.specs.Holds.{Holds, Phase, holds_keep, touches, fill_column, fill_rows}
+use Rattle.plan.proofs.Holds.{Holds, Phase, holds_keep, touches, fill_column, fill_rows}
 use Rattle.plan.specs.Names.{at, ZeroCells, Units, Shifts, Sides, PositivePrices, Memberships, Amounts, Offers, HighestOffers, Prices, Temporaries, HighestOffer}
 use Rattle.plan.specs.Running.{Raises, raise}
-use Rattle.plan.specs.Values.{cell_tables, positive_price, accepted_amount, offer, highest_offer, price_cells}
+use Rattle.plan.proofs.Values.{cell_tables, positive_price, accepted_amount, offer, highest_offer, price_cells}
 use Rattle.plan.specs.Blocks.{offer_block, highest_offer_turn, price_block}
 use Rattle.plan.specs.Table.{highest_offer_block}
-use Rattle.plan.specs.Bounds.{accepted_small, offer_small}
+use Rattle.plan.proofs.Bounds.{accepted_small, offer_small}
 
 -- two tests and a number, by products
 both_tests : (s t : Bool) (v : ℕ) → v < modulus → times (times (on s 1) (minus 1 (on t 1))) v ≡ on (s && not t) v

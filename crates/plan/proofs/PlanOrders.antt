@@ -12,7 +12,8 @@ use Rattle.definitions.specs.Calls.{counts_refusal}
 use Rattle.definitions.specs.Plan.{total}
 use Rattle.laws.specs.Sizes.{Counts, counted}
 use Rattle.plan.specs.Entries.{All, all_at}
-use Rattle.plan.specs.Plan.{plan, plan_bound, WritesNoInput, plan_writes_no_input}
+use Rattle.plan.specs.Plan.{plan, WritesNoInput}
+use Rattle.plan.proofs.PlanFacts.{plan_bound, plan_writes_no_input}
 
 all_well_formed : (n m : ℕ) (os : List Order) → All (WritesNoInput n m) os → AllWellFormed os
 all_well_formed n m [] all = all

@@ -10,15 +10,17 @@ use Rattle.laws.specs.AcceptedBook.{Sound}
 use Rattle.theory.specs.ClosedBest.{demand_small, cut_small}
 use Rattle.plan.specs.Orders.{constant, sum, run, State}
 use Rattle.plan.specs.Residues.{plus_small, times_on}
-use Rattle.plan.specs.Loops.{loop, among, writes, writes_loop, keep, eqb_same}
-use Rattle.plan.specs.Holds.{Holds, Phase, holds_keep, holds_part, touches, fill_column, fill_after}
+use Rattle.plan.specs.Loops.{loop, among, writes, writes_loop, eqb_same}
+use Rattle.plan.proofs.LoopFacts.{keep}
+use Rattle.plan.proofs.Holds.{Holds, Phase, holds_keep, holds_part, touches, fill_column, fill_after}
 use Rattle.plan.specs.Names.{Name, Capacities, ZeroCells, Sides, PoolSizes, Demands, Subsets, Cuts, Temporaries, ZeroCell, Demand, Subset, Cut, Capacity}
 use Rattle.plan.specs.Subsets.{leaves, subset_sum}
-use Rattle.plan.specs.Running.{Adds, accumulate, gather, subset_block, subset_frame, subset_sums}
-use Rattle.plan.specs.Values.{cell_tables, pool_size, demand, cut}
+use Rattle.plan.specs.Running.{Adds, accumulate, gather, subset_block, subset_frame}
+use Rattle.plan.proofs.RunningFacts.{subset_sums}
+use Rattle.plan.proofs.Values.{cell_tables, pool_size, demand, cut}
 use Rattle.plan.specs.Blocks.{demand_turn, cut_turn}
 use Rattle.plan.specs.Table.{demand_block, subset_blocks, cut_block}
-use Rattle.plan.specs.Bounds.{pool_size_small, demands_small}
+use Rattle.plan.proofs.Bounds.{pool_size_small, demands_small}
 
 -- a cell, or the zero cell where the test fails
 pub chosen : (t : State) (x : Bool) (c : Name) (v : ℕ) → t ZeroCell ≡ 0 → t c ≡ v → t (cond x c ZeroCell) ≡ on x v

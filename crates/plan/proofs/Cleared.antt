@@ -19,18 +19,19 @@ use Rattle.laws.specs.AcceptedBook.{Sound}
 use Rattle.plan.specs.Orders.{OrderOn, constant, operate, target, order_of, renamed, run}
 use Rattle.plan.specs.Loops.{loop, one_of}
 use Rattle.plan.specs.Names.{Family, number, Name, at, Amounts, Flows, Prices, Temporaries, family_count, rows_of, columns_of}
-use Rattle.plan.specs.Layout.{address_below, address_apart}
-use Rattle.plan.specs.Simulation.{run_length, run_other, AllNamed, run_agrees}
+use Rattle.plan.proofs.LayoutFacts.{address_below, address_apart}
+use Rattle.plan.proofs.Simulation.{run_length, run_other, AllNamed, run_agrees}
 use Rattle.plan.specs.Entries.{all_imply}
 use Rattle.plan.specs.Phased.{flat, flat_last, each_flat}
-use Rattle.plan.specs.Values.{cell_tables, accepted_amount, line_flow, closed_price, closed_presence}
+use Rattle.plan.proofs.Values.{cell_tables, accepted_amount, line_flow, closed_price, closed_presence}
 use Rattle.plan.specs.Blocks.{zero_block}
 use Rattle.plan.specs.Table.{scratch_count, zero_phase, work, table}
-use Rattle.plan.specs.Whole.{outputs, work_done}
-use Rattle.plan.specs.Proper.{Valid, Proper, work_each}
-use Rattle.plan.specs.Plan.{from, from_scratch, from_end, zero_cell, cell_of, cell_orders, plan, Writable, WritesWell, numbered_writes, names_fit}
-use Rattle.plan.specs.SealedSheet.{sealed_length, sealed_zero}
-use Rattle.plan.specs.Sealed.{sealed_state, sealed_inputs}
+use Rattle.plan.proofs.Whole.{outputs, work_done}
+use Rattle.plan.proofs.Proper.{Valid, Proper, work_each}
+use Rattle.plan.specs.Plan.{from, cell_of, cell_orders, plan, Writable, WritesWell}
+use Rattle.plan.proofs.PlanFacts.{from_scratch, from_end, zero_cell, numbered_writes, names_fit}
+use Rattle.plan.proofs.SealedSheet.{sealed_length, sealed_zero}
+use Rattle.plan.proofs.Sealed.{sealed_state, sealed_inputs}
 
 -- what the sheet r holds when book B is cleared, by document 01's cells
 pub record HoldsClearing (B : Book) (r : List ℕ) : Type 0 where

@@ -4,14 +4,14 @@ use Rattle.std.specs.Prelude.{List, [], ◌∷◌}
 use Rattle.definitions.specs.Book.{Book}
 use Rattle.laws.specs.AcceptedBook.{Sound}
 use Rattle.plan.specs.Orders.{State, run}
-use Rattle.plan.specs.Holds.{Holds, Step, then, phase_step, step_part}
+use Rattle.plan.proofs.Holds.{Holds, Step, then, phase_step, step_part}
 use Rattle.plan.specs.Names.{Family, Bids, Capacities, Amounts, Flows, Prices, ZeroCells}
-use Rattle.plan.specs.Values.{cell_tables}
-use Rattle.plan.specs.Bids.{unit_phase, shift_phase, pool_number_phase, side_phase, size_phase, positive_price_phase, double_phase, key_phase, next_phase, membership_phase, pool_size_phase}
-use Rattle.plan.specs.Cuts.{demand_phase_lem, cut_phase_lem}
-use Rattle.plan.specs.Ranks.{size_before_phase_lem, rank_before_phase, size_with_phase, rank_with_phase, use_phase, amount_phase}
-use Rattle.plan.specs.Lines.{placement_phase_lem, slack_phase_lem, flow_phase}
-use Rattle.plan.specs.Prices.{offer_phase, highest_offer_phase_lem, price_phase}
+use Rattle.plan.proofs.Values.{cell_tables}
+use Rattle.plan.proofs.Bids.{unit_phase, shift_phase, pool_number_phase, side_phase, size_phase, positive_price_phase, double_phase, key_phase, next_phase, membership_phase, pool_size_phase}
+use Rattle.plan.proofs.Cuts.{demand_phase_lem, cut_phase_lem}
+use Rattle.plan.proofs.Ranks.{size_before_phase_lem, rank_before_phase, size_with_phase, rank_with_phase, use_phase, amount_phase}
+use Rattle.plan.proofs.Lines.{placement_phase_lem, slack_phase_lem, flow_phase}
+use Rattle.plan.proofs.Prices.{offer_phase, highest_offer_phase_lem, price_phase}
 use Rattle.plan.specs.Phased.{flat}
 use Rattle.plan.specs.Table.{work}
 

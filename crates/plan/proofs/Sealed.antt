@@ -13,12 +13,12 @@ use Rattle.definitions.specs.Sheet.{sealed_sheet}
 use Rattle.definitions.specs.Machine.{cell}
 use Rattle.laws.specs.AcceptedBook.{Sound}
 use Rattle.plan.specs.Orders.{State}
-use Rattle.plan.specs.Holds.{Holds, holds_add}
+use Rattle.plan.proofs.Holds.{Holds, holds_add}
 use Rattle.plan.specs.Names.{at, Bids, Capacities, ZeroCells}
-use Rattle.plan.specs.Values.{cell_tables, bid_cell}
+use Rattle.plan.proofs.Values.{cell_tables, bid_cell}
 use Rattle.plan.specs.Plan.{cell_of}
-use Rattle.plan.specs.Whole.{inputs}
-use Rattle.plan.specs.SealedSheet.{sealed_bid, sealed_capacity, sealed_zero}
+use Rattle.plan.proofs.Whole.{inputs}
+use Rattle.plan.proofs.SealedSheet.{sealed_bid, sealed_capacity, sealed_zero}
 
 module _ (B : Book) (sound : Sound B) where
   -- the sheet by names

@@ -4,8 +4,10 @@ use Rattle.std.proofs.Common.{sym, ap, ◌∙◌, arith, ne_eqb}
 use Rattle.std.proofs.lemmas.Bool.{false≢true}
 use Rattle.std.proofs.Math.Arith.{lt-one}
 use Rattle.plan.specs.Orders.{OrderOn, State, run}
-use Rattle.plan.specs.Names.{Family, number, family_equal, Name, at, family, row, same}
-use Rattle.plan.specs.Loops.{loop, named_run_append, loop_invariant, one_of, among, writes, writes_append, writes_loop, writes_more, eqb_same, keep, loop_only}
+use Rattle.plan.specs.Names.{Family, number, Name, at, family, row, same}
+use Rattle.plan.proofs.NameFacts.{family_equal}
+use Rattle.plan.specs.Loops.{loop, named_run_append, loop_invariant, one_of, among, writes, writes_append, writes_loop, writes_more, eqb_same, loop_only}
+use Rattle.plan.proofs.LoopFacts.{keep}
 
 -- ---- lists of families
 

@@ -4,7 +4,7 @@ use Rattle.definitions.specs.Limits.{price_limit}
 use Rattle.definitions.specs.Arithmetic.{on, residue}
 use Rattle.definitions.specs.Book.{Book, pool, price, quantity, size, capacity}
 use Rattle.laws.specs.AcceptedBook.{pool_index}
-use Rattle.plan.specs.Holds.{Tables}
+use Rattle.plan.proofs.Holds.{Tables}
 use Rattle.plan.specs.Names.{Family, Bids, Capacities, Amounts, Flows, Prices, Temporaries, ZeroCells, Units, Shifts, PoolNumbers, Sides, Sizes, PositivePrices, Doubles, Keys, Nexts, Memberships, PoolSizes, Demands, Subsets, Cuts, SizesBefore, RanksBefore, SizesWith, RanksWith, Uses, Placements, Slacks, Offers, HighestOffers, rows_of, columns_of}
 pub use Rattle.theory.specs.ClosedForms.{positive_price, side, key, pool_size, taken_of, line_flow, closed_price, closed_presence}
 unfoldable pub use Rattle.theory.specs.ClosedForms.{demand, cut, size_before, size_with, rank, used_amount, accepted_amount, placement, slack, rest_of, flow_of, slack_after, offer, highest_offer}

@@ -8,7 +8,8 @@ use Rattle.definitions.specs.Calls.{seal_refusal, bids_refusal, capacities_refus
 use Rattle.laws.specs.Extremes.{min_to}
 use Rattle.theory.specs.Subsets.{member}
 use Rattle.theory.specs.ClosedForms.{subset_sum, demand, cut, size_before, size_with, rank, used_amount, accepted_amount}
-use Rattle.examples.specs.Examples.{listed, Cleared, cleared}
+use Rattle.examples.specs.Examples.{listed, Cleared}
+use Rattle.examples.proofs.Examples.{cleared}
 
 -- "m 4, lines 1 to 2, 2 to 4, 1 to 3 and 3 to 4 carry 4, else 0; (1,10,−4), (2,20,−4), (4,30,8)"
 unfoldable pub book_rerouted : Book

@@ -12,7 +12,7 @@ use Rattle.laws.specs.Tests.{on_le}
 use Rattle.laws.specs.AcceptedBook.{pool_index, Sound}
 use Rattle.theory.specs.ClosedBest.{size_total, demand_small, size_before_small, cut_small, used_size}
 use Rattle.plan.specs.Subsets.{member}
-use Rattle.plan.specs.Values.{pool_size, demand, cut, size_with, rank, used_amount, accepted_amount, positive_price, offer}
+use Rattle.plan.proofs.Values.{pool_size, demand, cut, size_with, rank, used_amount, accepted_amount, positive_price, offer}
 
 -- a sum of at most so many terms
 pub sum_limit_lem : (k K : ℕ) (f : ℕ → ℕ) (b : ℕ) → k ≤ K → ((i : ℕ) → i < k → f i ≤ b) → sum_to k f ≤ K * b

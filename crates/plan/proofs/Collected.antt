@@ -9,7 +9,7 @@ use Rattle.definitions.specs.Answers.{Refusal, none, refuse, is_none}
 use Rattle.definitions.specs.Calls.{counts_refusal}
 use Rattle.definitions.specs.Plan.{Plan, Answer, asked, collect, collected, total}
 use Rattle.laws.specs.Tests.{Lt?, less, more, lt?}
-use Rattle.plan.specs.Asking.{refused_by_counts, asked_at_end, asked_before_end, total_accepted, total_refused}
+use Rattle.plan.proofs.Asking.{refused_by_counts, asked_at_end, asked_before_end, total_accepted, total_refused}
 
 module _ (P : Plan) (n m : ℕ) where
   -- one answer, and the orders after it

@@ -1,0 +1,3 @@
+-- That they hold, and the rerouting of the costly mistakes.
+pub mod Examples
+pub mod Rerouting
