@@ -11,7 +11,7 @@ use Rattle.definitions.specs.Calls.{AcceptedBook, seal_refusal, bids_refusal, ca
 use Rattle.definitions.specs.Outcome.{Outcome, result_of, plan_run}
 use Rattle.laws.specs.AcceptedBook.{Sound, accepted_sound}
 use Rattle.theory.specs.FlowOrder.{FirstFlows}
-use Rattle.theory.specs.ClosedBest.{closed_clearing_lem, closed_price_lem}
+use Rattle.theory.proofs.ClosedBest.{closed_clearing_lem, closed_price_lem}
 use Rattle.plan.specs.Plan.{plan}
 use Rattle.plan.proofs.AnExample.{three_pools, three_pools_cleared, example_run}
 use Rattle.plan.proofs.Cleared.{HoldsClearing, plan_clears}

@@ -13,7 +13,7 @@ use Rattle.theory.specs.Subsets.{member}
 use Rattle.theory.specs.ClosedForms.{subset_sum, demand, cut, size_before, size_with, rank, used_amount, accepted_amount}
 use Rattle.theory.specs.SameClearing.{welfare_same}
 use Rattle.theory.specs.PoolPrice.{pool_price_same}
-use Rattle.theory.specs.ClosedBest.{closed_accepted}
+use Rattle.theory.proofs.ClosedBest.{closed_accepted}
 use Rattle.theory.specs.BestClearing.{best_exists}
 use Rattle.examples.specs.Examples.{listed, Cleared, Edges, ProvedExamples}
 

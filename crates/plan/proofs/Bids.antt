@@ -6,7 +6,7 @@ use Rattle.definitions.specs.Arithmetic.{on, residue}
 use Rattle.definitions.specs.Machine.{same_as}
 use Rattle.definitions.specs.Book.{Book, pool, price, quantity, size}
 use Rattle.laws.specs.AcceptedBook.{pool_index, raised_price, Sound}
-use Rattle.theory.specs.ClosedBest.{key_small}
+use Rattle.theory.proofs.ClosedBest.{key_small}
 use Rattle.plan.specs.Residues.{plus_small, times_on, positive_residue, size_residue, raise_residue}
 use Rattle.plan.specs.Loops.{loop, eqb_same}
 use Rattle.plan.proofs.Holds.{Phase, fill_column, fill_cells}

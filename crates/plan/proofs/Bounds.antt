@@ -10,7 +10,8 @@ use Rattle.laws.specs.Sum.{sum_bound}
 use Rattle.laws.specs.Extremes.{min_le_start}
 use Rattle.laws.specs.Tests.{on_le}
 use Rattle.laws.specs.AcceptedBook.{pool_index, Sound}
-use Rattle.theory.specs.ClosedBest.{size_total, demand_small, size_before_small, cut_small, used_size}
+use Rattle.theory.specs.ClosedBest.{size_total}
+use Rattle.theory.proofs.ClosedBest.{demand_small, size_before_small, cut_small, used_size}
 use Rattle.plan.specs.Subsets.{member}
 use Rattle.plan.proofs.Values.{pool_size, demand, cut, size_with, rank, used_amount, accepted_amount, positive_price, offer}
 

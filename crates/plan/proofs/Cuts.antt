@@ -7,7 +7,7 @@ use Rattle.definitions.specs.Limits.{modulus}
 use Rattle.definitions.specs.Arithmetic.{on, sum_to}
 use Rattle.definitions.specs.Book.{Book, purchase, capacity}
 use Rattle.laws.specs.AcceptedBook.{Sound}
-use Rattle.theory.specs.ClosedBest.{demand_small, cut_small}
+use Rattle.theory.proofs.ClosedBest.{demand_small, cut_small}
 use Rattle.plan.specs.Orders.{constant, sum, run, State}
 use Rattle.plan.specs.Residues.{plus_small, times_on}
 use Rattle.plan.specs.Loops.{loop, among, writes, writes_loop, eqb_same}

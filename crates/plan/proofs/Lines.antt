@@ -12,7 +12,8 @@ use Rattle.definitions.specs.Book.{Book, capacity}
 use Rattle.laws.specs.Rows.{row_column}
 use Rattle.laws.specs.Extremes.{min_to}
 use Rattle.laws.specs.AcceptedBook.{pool_index, Sound}
-use Rattle.theory.specs.ClosedBest.{size_total, amount_limit, placement_small, placement_cut, cut_small, slack_small, taken_slack, flow_and_rest}
+use Rattle.theory.specs.ClosedBest.{size_total, amount_limit}
+use Rattle.theory.proofs.ClosedBest.{placement_small, placement_cut, cut_small, slack_small, taken_slack, flow_and_rest}
 use Rattle.plan.specs.Orders.{constant, sum, difference, run, State}
 use Rattle.plan.specs.Residues.{plus_small, minus_small, times_on, min_small}
 use Rattle.plan.specs.Loops.{loop, named_run_append, loop_invariant, among, writes, writes_append, writes_loop, eqb_same, loop_own}

@@ -6,7 +6,7 @@ use Rattle.definitions.specs.Clearing.{before}
 use Rattle.laws.specs.Tests.{Lt?, less, more, lt?}
 use Rattle.laws.specs.AcceptedBook.{Sound}
 use Rattle.theory.specs.ClosedForms.{positive_price, key}
-use Rattle.theory.specs.ClosedBest.{before_low, before_high, before_self}
+use Rattle.theory.proofs.ClosedBest.{before_low, before_high, before_self}
 
 -- the comparison that the plan makes; the tests say j < i and i < j
 abbrev pub key_test : Bool → Bool → (B : Book) (j i : ℕ) → Bool

@@ -8,7 +8,7 @@ use Rattle.definitions.specs.Book.{Book, purchase}
 use Rattle.definitions.specs.Machine.{minus, times}
 use Rattle.laws.specs.Tests.{on_le}
 use Rattle.laws.specs.AcceptedBook.{pool_index, Sound}
-use Rattle.theory.specs.ClosedBest.{highest_offer_small}
+use Rattle.theory.proofs.ClosedBest.{highest_offer_small}
 use Rattle.plan.specs.Orders.{constant, run, State}
 use Rattle.plan.specs.Residues.{times_on, on_times, less_small, max_small}
 use Rattle.plan.specs.Loops.{loop, writes_loop, eqb_same}

@@ -13,7 +13,8 @@ use Rattle.definitions.specs.Clearing.{before}
 use Rattle.laws.specs.Sum.{sum_prefix}
 use Rattle.laws.specs.Extremes.{min_to}
 use Rattle.laws.specs.AcceptedBook.{Sound}
-use Rattle.theory.specs.ClosedBest.{size_total, key_small, used_and_rank, used_size, size_before_small}
+use Rattle.theory.specs.ClosedBest.{size_total}
+use Rattle.theory.proofs.ClosedBest.{key_small, used_and_rank, used_size, size_before_small}
 use Rattle.plan.specs.Orders.{constant, run, State}
 use Rattle.plan.specs.Residues.{plus_small, minus_small, times_on, less_small, min_small}
 use Rattle.plan.specs.Loops.{loop, named_run_append, loop_invariant, among, writes, writes_append, writes_loop, eqb_same, loop_own}

@@ -1,4 +1,4 @@
--- The best clearing of an accepted book: it exists, with permitted flows; it is unique; it has the greatest welfare; its first flows by rows are permitted.
+-- The best clearing of an accepted book: it exists, with permitted flows; it is unique; it has the greatest welfare.
 use Rattle.std.specs.Prelude.{◌≡◌, ℕ, ◌<◌, ℤ, ◌≤ℤ◌}
 use Rattle.std.proofs.Common.{sym, ◌∙◌, subst}
 use Rattle.definitions.specs.Book.{Book}
@@ -8,9 +8,9 @@ use Rattle.laws.specs.AcceptedBook.{accepted_sound}
 use Rattle.theory.specs.StrictOrder.{StrictTotal}
 use Rattle.theory.specs.BookNetwork.{before_strict_total}
 use Rattle.theory.specs.FlowOrder.{FirstFlows}
-use Rattle.theory.specs.Dictionary.{no_greater_antisymmetric, no_later_antisymmetric}
+use Rattle.theory.specs.Dictionary.{no_greater_antisymmetric}
 use Rattle.theory.specs.SameClearing.{accepted_by_used, feasible_amounts, welfare_same}
-use Rattle.theory.specs.CutClearing.{cut_clearing, cut_best, cut_permitted, cut_welfare, cut_first_flows}
+use Rattle.theory.specs.CutClearing.{cut_clearing, cut_best, cut_permitted, cut_welfare}
 
 -- the merit order is a strict total order on the bids
 pub merit_order_total : (B : Book) → AcceptedBook B → StrictTotal B.n (before B)
@@ -36,22 +36,3 @@ best_welfare B h c b d f =
 -- so all best clearings have one welfare
 pub welfare_of_best : (B : Book) → AcceptedBook B → (c d : Clearing) → Best B c → Best B d → welfare B c.accepted ≡ welfare B d.accepted
 welfare_of_best B h c d b e = welfare_same B c.accepted d.accepted (best_unique B h c d b e)
-
--- to the accepted amounts of every best clearing there are permitted flows, and these are the first by rows among all that make the amounts feasible
-pub first_flows_exist : (B : Book) → AcceptedBook B → (c : Clearing) → Best B c
-    → (f : ℕ → ℕ → ℕ) × Permitted B (record { accepted = c.accepted; flow = f }) × FirstFlows B (record { accepted = c.accepted; flow = f })
-first_flows_exist B h c b =
-    let ok = accepted_sound B h in
-    let f = (cut_clearing B).flow in
-    let same : (i : ℕ) → i < B.n → (cut_clearing B).accepted i ≡ c.accepted i = best_unique B h (cut_clearing B) c (cut_best B ok) b in
-    let feasible = feasible_amounts B (cut_clearing B).accepted c.accepted f same (cut_best B ok).feasible in (
-      f,
-      record { feasible = feasible; one_way = (cut_permitted B ok).one_way },
-      record { feasible = feasible; first = λ d k e. (cut_first_flows B ok).first d k (λ i l. e i l ∙ sym (same i l)) },
-    )
-
--- the first flows are unique
-pub first_flows_unique : (B : Book) → AcceptedBook B → (c d : Clearing) → FirstFlows B c → FirstFlows B d
-    → ((i : ℕ) → i < B.n → c.accepted i ≡ d.accepted i) → (a b : ℕ) → a < B.m → b < B.m → c.flow a b ≡ d.flow a b
-first_flows_unique B h c d f g e =
-    no_later_antisymmetric B (accepted_sound B h) c.flow d.flow (f.first d g.feasible (λ i l. sym (e i l))) (g.first c f.feasible e)

@@ -1,4 +1,4 @@
--- The clearing that the cuts give, of a sound book: it is best and permitted, has the greatest welfare and the first flows by rows.
+-- The clearing that the cuts give, of a sound book: it is best and permitted, and has the greatest welfare.
 use Rattle.std.specs.Prelude.{◌≡◌, true, ℕ, ◌+◌, ◌*◌, ◌<◌, ◌/◌, ◌%◌, pos, ◌≤ℤ◌}
 use Rattle.std.proofs.Common.{sym, ◌∙◌}
 use Rattle.std.proofs.Math.Bool.{cond}
@@ -17,7 +17,7 @@ use Rattle.theory.specs.Welfare.{FeasibleAmounts, turn, turn_turn, turn_same, pa
 use Rattle.theory.specs.Grid.{grid_one_way}
 use Rattle.theory.specs.BookNetwork.{network_of, by_lines, by_pools, used_is, network_sound, feasible_network, network_feasible, before_strict_total, before_rises, price_raised}
 use Rattle.theory.specs.FlowOrder.{FirstFlows}
-use Rattle.theory.specs.Dictionary.{no_greater, no_greater_antisymmetric, no_later_flows}
+use Rattle.theory.specs.Dictionary.{no_greater, no_greater_antisymmetric}
 
 -- used amounts as differences of ranks
 abbrev pub cut_used : Book → ℕ → ℕ
@@ -31,7 +31,7 @@ module _ (B : Book) (ok : Sound B) where
   pub within_cuts : WithinCuts (network_of B) (cut_used B)
   within_cuts = best_within_cuts (network_of B) (network_sound B ok) (before B) (before_strict_total B ok)
 
-  turned_back : (i : ℕ) → i < B.n → turn (network_of B) (turn (network_of B) (cut_used B)) i ≡ cut_used B i
+  pub turned_back : (i : ℕ) → i < B.n → turn (network_of B) (turn (network_of B) (cut_used B)) i ≡ cut_used B i
   turned_back i l = turn_turn (network_of B) (cut_used B) i (within_cuts.sizes i l)
 
   cut_used_lem : (i : ℕ) → i < B.n → used B (cut_clearing B).accepted i ≡ cut_used B i
@@ -100,17 +100,3 @@ module _ (B : Book) (ok : Sound B) where
         best_welfare (network_of B) (network_sound B ok) (before B) (before_strict_total B ok) (λ i. raised_price B i) (before_rises B ok) (2 * price_limit) ok.price_small
             d.accepted (by_lines B d.flow) (feasible_network B ok d h),
       ))
-
-  -- ---- flows
-
-  -- the flows are the first by rows
-  pub cut_first_flows : FirstFlows B (cut_clearing B)
-  cut_first_flows = record {
-    feasible = cut_feasible;
-    first = λ d h e. no_later_flows B (network_sound B ok) (line_flow (network_of B) (cut_used B)) d.flow (λ k l b.
-        flow_first (network_of B) (cut_used B) within_cuts (by_lines B d.flow)
-        (feasible_same (network_of B) (turn (network_of B) d.accepted) (cut_used B) (by_lines B d.flow)
-        (λ i r. turn_same (network_of B) d.accepted (cut_clearing B).accepted i (e i r) ∙ turned_back i r)
-        (clearing_feasible (network_of B) d.accepted (by_lines B d.flow) (feasible_network B ok d h)))
-        k l b);
-  }

@@ -1,0 +1,7 @@
+-- The theorems that rest on the definitions of specs/: flows by rows, the closed forms, reach and the pool price.
+pub mod Dictionary
+pub mod CutClearing
+pub mod BestClearing
+pub mod PoolPrice
+pub mod ClosedBest
+pub mod Reachable
