@@ -1,5 +1,7 @@
 // The two calls of the C host, on numbers and byte slices: the plan's total, and its bytes from a position on.
 // Each returns the refusal's number, 0 for none, and gives its numbers in a further slice, 8 bytes each, lowest byte first.
+#![tactic(auto)]
+
 ghost use Rattle.std.specs.Prelude.{◌≡◌, ◌+◌, ◌≤◌, eqb, length};
 ghost use Rattle.std.proofs.lemmas.List.Edits.{sets};
 ghost use Rattle.definitions.specs.Answers.{first, number_of, refusal_of};
