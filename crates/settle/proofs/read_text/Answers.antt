@@ -1,5 +1,5 @@
 -- Each turn leads on or ends the text, and so does the end of the turns.
-use Rattle.std.proofs.Common.{◌-◌, sym, ◌∙◌, arith}
+use Rattle.std.proofs.Common.{◌-◌, sym, arith}
 use Rattle.settle.specs.Whole.{no_turn, turn_onward, turn_over, turns_over}
 use Rattle.settle.proofs.read_text.Goals as goal
 

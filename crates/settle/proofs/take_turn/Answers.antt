@@ -5,7 +5,7 @@ use Rattle.std.proofs.lemmas.List.{take_min}
 use Rattle.gathering.specs.Counts.{clamp_len}
 use Rattle.text.specs.Reading.{Reading, read_so_far, fed}
 use Rattle.settle.specs.declared.Turn.TheVariants.{More, Over}
-use Rattle.settle.specs.Turns.{Turned, left_by, broken_off, text_over, text_onward, turned}
+use Rattle.settle.specs.Turns.{left_by, broken_off, text_over, text_onward, turned}
 use Rattle.settle.proofs.take_turn.Goals as goal
 use lib.Signed.{lt_z}
 
@@ -54,16 +54,18 @@ returns-then-got-eq0-clause-numbers_after c =
 
 pub returns-clause-value : goal.returns-clause-value
 returns-clause-value c =
-    rw
-    (onward (read_so_far c.args.reader c.args.numbers.now) c.args.got c.args.piece.now (answer (to_z-of_z c.ranges.got) c.if-got-lt0.false)
-      (λ q. c.if-got-eq0.false (ap (of_z w64) q)),
-    sym (c.count-size.ensures.value ∙ ap (λ (z : ℤ). clamp_len z (length c.args.piece.now)) (to_z-of_z c.ranges.got)))
+    rw (
+      onward (read_so_far c.args.reader c.args.numbers.now) c.args.got c.args.piece.now (answer (to_z-of_z c.ranges.got) c.if-got-lt0.false)
+          (λ q. c.if-got-eq0.false (ap (of_z w64) q)),
+      sym (c.count-size.ensures.value ∙ ap (λ (z : ℤ). clamp_len z (length c.args.piece.now)) (to_z-of_z c.ranges.got)),
+    )
     (ap More c.feed.ensures.value)
 
 pub returns-clause-numbers_after : goal.returns-clause-numbers_after
 returns-clause-numbers_after c =
-    rw
-    (onward (read_so_far c.args.reader c.args.numbers.now) c.args.got c.args.piece.now (answer (to_z-of_z c.ranges.got) c.if-got-lt0.false)
-      (λ q. c.if-got-eq0.false (ap (of_z w64) q)),
-    sym (c.count-size.ensures.value ∙ ap (λ (z : ℤ). clamp_len z (length c.args.piece.now)) (to_z-of_z c.ranges.got)))
+    rw (
+      onward (read_so_far c.args.reader c.args.numbers.now) c.args.got c.args.piece.now (answer (to_z-of_z c.ranges.got) c.if-got-lt0.false)
+          (λ q. c.if-got-eq0.false (ap (of_z w64) q)),
+      sym (c.count-size.ensures.value ∙ ap (λ (z : ℤ). clamp_len z (length c.args.piece.now)) (to_z-of_z c.ranges.got)),
+    )
     c.feed.ensures.numbers_after
