@@ -1,3 +1,5 @@
 -- What the proofs of the two calls share, and the host's walk by computation.
 pub mod Numbers
 pub mod WalkFacts
+pub mod ReadBack
+pub mod Walk

@@ -1,5 +1,4 @@
--- Bytes with the lowest first hold the number that they were made of (`read_back`), so the host can read the total from its 8 bytes
--- (`total_read_back`), and the counts and the next position from their 24 (`counts_read_back`), whatever slices were lent.
+-- The numbers that bytes hold, the lowest first: the total from 8 bytes, and the counts and the next position from 24.
 use Rattle.std.specs.Prelude.{ℕ, zero, suc, ◌+◌, ◌*◌, ◌/◌, ◌≤◌, ◌<◌, ◌≡◌, refl, List, [], ◌∷◌, ◌++◌, length, take, drop}
 use Rattle.std.proofs.Common.{sym, ap, ◌∙◌, arith, le_refl, add-le-add, mul-le-mul, mul-le-mul_left, take_at, drop_at, take_all, drop-drop}
 use Rattle.std.proofs.Math.Nat.{pow-le-pow_left}
@@ -10,9 +9,7 @@ use Rattle.definitions.specs.Outcome.{order_limit}
 use Rattle.definitions.specs.Plan.{lowest_first, Written, written_counts, count_bytes, total_refusal, total_slice, bytes_refusal, counts_slice, longest_order, number_size}
 use Rattle.laws.specs.Sizes.{counted}
 use Rattle.plan.specs.Plan.{plan}
-use Rattle.plan.proofs.PlanOrders.{plan_length_limit}
 use Rattle.orders.specs.Calls.{write_within}
-use Rattle.walk.specs.Sequence.{orders_within, bytes_within}
 use Rattle.host.specs.Calls.{total_counts, total_given, bytes_writing, counts_given}
 
 -- the number that bytes hold, the lowest first
@@ -30,43 +27,6 @@ unfolding lowest_first
 lowest_length zero v = refl
 lowest_length (suc k) v = ap suc (lowest_length k (v / 256))
 
-pub read_back : (k v : ℕ) → v < bytes_limit k → held (lowest_first k v) ≡ v
-unfolding held bytes_limit lowest_first
-read_back zero v h = omega arith
-read_back (suc k) v h = omega (arith, read_back k (v / 256) (omega arith))
-
--- ---- the limit on the plan's orders grows with the counts, and at the greatest counts 8 bytes hold 8 times as much
-
-limit_grows : (n m a b : ℕ) → n ≤ a → m ≤ b → order_limit n m ≤ order_limit a b
-limit_grows n m a b h k =
-    let pools : m + 1 ≤ b + 1 = omega arith in
-    add-le-add (mul-le-mul h (add-le-add (mul-le-mul_left _ h) (mul-le-mul_left _ (pow-le-pow_left pools _)))) (le_refl _)
-
-greatest_held : longest_order * order_limit bid_limit pool_limit < bytes_limit number_size
-unfolding bytes_limit
-greatest_held = omega arith
-
--- so 8 bytes hold the plan's length, and the length of its bytes
-plan_held : (n m v : ℕ) → counts_refusal n m ≡ none → v ≤ longest_order * length (plan n m) → v < bytes_limit number_size
-plan_held n m v counts h =
-    let limits = counted n m counts in
-    omega (
-      arith,
-      plan_length_limit n m limits.bids limits.pools.least limits.pools.most,
-      limit_grows n m bid_limit pool_limit limits.bids limits.pools.most,
-      greatest_held,
-    )
-
--- ---- the total
-
--- the slice of an accepted call for the total holds the total
-pub total_read_back : (n m : ℕ) (out : List ℕ) → total_refusal n m (length out) ≡ none → held (total_slice plan n m out) ≡ length (plan n m)
-total_read_back n m out accepted =
-    ap held (total_given plan n m out accepted)
-    ∙ read_back number_size (length (plan n m)) (plan_held n m _ (total_counts plan n m out accepted) (omega arith))
-
--- ---- the writer's three numbers
-
 -- the number that the 8 bytes from an offset on hold
 abbrev pub held_from : (at : ℕ) → List ℕ → ℕ
 held_from at bytes = held (take number_size (drop at bytes))
@@ -74,35 +34,3 @@ held_from at bytes = held (take number_size (drop at bytes))
 -- the three numbers that 24 bytes hold
 abbrev pub counts_held : List ℕ → Written
 counts_held out = record { bytes = held_from 0 out; orders = held_from number_size out; next = held_from (2 * number_size) out }
-
-three_parts : (x y z : List ℕ) → length x ≡ number_size → length y ≡ number_size → length z ≡ number_size
-    → (take number_size (drop 0 (x ++ (y ++ z))) ≡ x) × (take number_size (drop number_size (x ++ (y ++ z))) ≡ y) × (take number_size (drop (2 * number_size) (x ++ (y ++ z))) ≡ z)
-three_parts x y z a b c =
-    let second : drop number_size (x ++ (y ++ z)) ≡ y ++ z = drop_at x (y ++ z) number_size a in
-    let third : drop (2 * number_size) (x ++ (y ++ z)) ≡ z = sym (drop-drop number_size number_size (x ++ (y ++ z))) ∙ ap (drop number_size) second ∙ drop_at y z number_size b in
-    (take_at x (y ++ z) number_size a, ap (take number_size) second ∙ take_at y z number_size b, ap (take number_size) third ∙ take_all number_size z (omega arith))
-
-by_parts : (x y : Written) → x.bytes ≡ y.bytes → x.orders ≡ y.orders → x.next ≡ y.next → x ≡ y
-by_parts x y p q r = rw (sym p, sym q, sym r) refl
-
-three_held : (w : Written) → w.bytes < bytes_limit number_size → w.orders < bytes_limit number_size → w.next < bytes_limit number_size → counts_held (count_bytes w) ≡ w
-three_held w a b c =
-    let long : (v : ℕ) → length (lowest_first number_size v) ≡ number_size = lowest_length number_size in
-    let parts = three_parts (lowest_first number_size w.bytes) (lowest_first number_size w.orders) (lowest_first number_size w.next) (long _) (long _) (long _) in
-    by_parts (counts_held (count_bytes w)) w
-    (ap held parts.0 ∙ read_back number_size w.bytes a)
-    (ap held parts.1 ∙ read_back number_size w.orders b)
-    (ap held parts.2 ∙ read_back number_size w.next c)
-
--- the slice of an accepted call for the plan's bytes holds the counts of bytes and orders and the next position
-pub counts_read_back : (n m at : ℕ) (bytes out : List ℕ) → bytes_refusal plan n m at (length bytes) (length out) ≡ none
-    → counts_held (counts_slice plan n m at (length bytes) out) ≡ written_counts plan n m at (length bytes)
-unfolding written_counts
-counts_read_back n m at bytes out accepted =
-    let within = write_within plan n m at (length bytes) (bytes_writing plan n m at bytes out accepted) in
-    let few = orders_within n m within.counts at (length bytes) within.position in
-    ap counts_held (counts_given plan n m at bytes out accepted)
-    ∙ three_held (written_counts plan n m at (length bytes))
-    (plan_held n m _ within.counts (bytes_within n m within.counts at (length bytes)))
-    (plan_held n m _ within.counts (omega arith))
-    (plan_held n m _ within.counts (omega arith))

@@ -1,2 +1,3 @@
 -- A host's walk by computation.
 pub mod WalkFacts
+pub mod Sequence
