@@ -17,17 +17,22 @@ impl Replay {
     const ROOM: usize = 524_288;
 }
 
-fn main(rt: HostRuntime) -> io::Result<()> {
-    let mut bytes = [0u8; Replay::ROOM];
-    let gathered = gather(&mut rt.stdin(), &mut bytes);
+// Reads a plan into the bytes lent, runs it and prints what it leaves.
+fn run_and_print(rt: &HostRuntime, bytes: &mut [u8; Replay::ROOM]) -> io::Result<()> {
+    let gathered = gather(&mut rt.stdin(), bytes);
     if !gathered.whole {
         return rt.write_all(b"not read whole\n");
     }
     let mut sheet = [0u32; Limits::CELLS];
     let ran = run(&mut sheet, &bytes[..gathered.size]);
     if !is_accepted(ran.verdict) {
-        return print_verdict(&rt, ran.verdict);
+        return print_verdict(rt, ran.verdict);
     }
-    print_number(&rt, b"orders", ran.orders)?;
-    print_cells(&rt, &sheet)
+    print_number(rt, b"orders", ran.orders)?;
+    print_cells(rt, &sheet)
+}
+
+fn main(rt: HostRuntime) -> io::Result<()> {
+    let mut bytes = [0u8; Replay::ROOM];
+    run_and_print(&rt, &mut bytes)
 }
