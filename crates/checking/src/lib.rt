@@ -1,4 +1,6 @@
 // Checking a settlement from elsewhere: whether the amounts and flows sent for a book are a feasible clearing of the greatest welfare.
+#![tactic(auto)]
+
 ghost use Rattle.std.specs.Prelude.{◌≡◌, length};
 ghost use Rattle.definitions.specs.Limits.{cell_count};
 ghost use Rattle.definitions.specs.Answers.{refusal_of};

@@ -1,4 +1,6 @@
 // Clearing: seals a book, runs the plan on the sheet, gives the count of orders and the welfare.
+#![tactic(auto)]
+
 ghost use Rattle.std.specs.Prelude.{◌≡◌, List, length, ℤ};
 ghost use Rattle.definitions.specs.Answers.{refusal_of};
 ghost use Rattle.definitions.specs.Book.{book};

@@ -1,5 +1,6 @@
 // The types that every part of the unit shares: its limits, the machine's orders, and the answers of its calls.
 // What each case means is defined in specs/, in the words and numbers of the documents.
+#![tactic(auto)]
 
 // The limits of the unit, together.
 #[derive(Clone, Copy)]

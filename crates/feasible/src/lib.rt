@@ -1,4 +1,6 @@
 // Whether the amounts and flows sent for a book are a feasible clearing.
+#![tactic(auto)]
+
 ghost use Rattle.std.specs.Prelude.{◌≡◌, ℕ, ◌+◌, ◌*◌, ◌<◌, length, pos, nat_abs};
 ghost use Rattle.definitions.specs.Arithmetic.{all_to, within};
 ghost use Rattle.definitions.specs.Answers.{refusal_of};

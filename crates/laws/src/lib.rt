@@ -1,1 +1,3 @@
+#![tactic(auto)]
+
 // Facts that several crates cite; all of them stand in specs/.

@@ -1,14 +1,14 @@
 -- Orders over names as the code makes them, flat: kind and families by their numbers (`flat_of`); a block's order at a place (`made`), orders that a test
 -- chooses, and the machine's order for each.
 use Rattle.std.specs.Prelude.{◌≡◌, refl, ◌≢◌, Bool, true, false, cond, List, ◌∷◌, ℕ, zero, suc, ◌-◌, ◌≤◌, ◌<◌, get_or, eqb}
-use Rattle.std.proofs.Common.{sym, ap, ◌∙◌, arith, lt-ltb, le-ltb, eq-eqb, ne_eqb}
+use Rattle.std.proofs.Common.{sym, ap, arith, lt-ltb, le-ltb, eq-eqb, ne_eqb}
 use Rattle.definitions.specs.declared.Order.{Order}
 use Rattle.orders.specs.declared.names.NamedOrder.{NamedOrder}
 use Rattle.plan.specs.Orders.{OrderOn, order_of, renamed, constant, operate, sum, difference, Operation, adding, subtracting, multiplying, comparing, equating}
 use Rattle.plan.specs.Subsets.{leaves, lowest, others}
 use Rattle.plan.specs.Running.{lowered, subset_order, subset_block}
 use Rattle.plan.specs.Blocks.{test_at, test_order, cut_turn, rest_cell, rest_turn, taken_cell, take_turn}
-use Rattle.plan.specs.Names.{number, family_at, family_count, Name, at, ZeroCell, Temporary, Capacity, Cut, Slack, Subset}
+use Rattle.plan.specs.Names.{number, family_at, Name, at, ZeroCell, Temporary, Capacity, Cut, Slack, Subset}
 use Rattle.plan.proofs.NameFacts.{at_number}
 use Rattle.plan.specs.Plan.{cell_of}
 

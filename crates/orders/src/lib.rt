@@ -1,5 +1,7 @@
 // The plan, asked at a position, run on a sheet and written as bytes: all by one table of phases, on which two loops walk.
 // An order is made over the names of cells first; one function then gives each name its cell.
+#![tactic(auto)]
+
 ghost use Rattle.std.specs.Prelude.{◌≡◌, length};
 ghost use Rattle.definitions.specs.Answers.{refusal_of};
 ghost use Rattle.definitions.specs.Calls.{counts_refusal};

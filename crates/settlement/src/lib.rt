@@ -1,6 +1,8 @@
 // From a text to the text that settle prints: clears the book, opens its results and lists them, or names the refusal.
 // specs/ say what is printed and left for every input, and that this is what document 01 says. Where out has less room than a listing may
 // need, every call here gives 0 and leaves sheet and out as they are.
+#![tactic(auto)]
+
 ghost use Rattle.std.specs.Prelude.{◌≤◌, ◌≡◌, length, take, leb};
 ghost use Rattle.definitions.specs.Answers.{refusal_of, none};
 ghost use Rattle.definitions.specs.Book.{book};

@@ -1,15 +1,13 @@
 -- The first flows of a best clearing: they exist, are permitted, and are unique.
-use Rattle.std.specs.Prelude.{◌≡◌, ℕ, ◌<◌, ℤ, ◌≤ℤ◌}
-use Rattle.std.proofs.Common.{sym, ◌∙◌, subst}
+use Rattle.std.specs.Prelude.{◌≡◌, ℕ, ◌<◌}
+use Rattle.std.proofs.Common.{sym, ◌∙◌}
 use Rattle.definitions.specs.Book.{Book}
-use Rattle.definitions.specs.Clearing.{Clearing, Feasible, Best, Permitted, before, used, welfare}
+use Rattle.definitions.specs.Clearing.{Clearing, Best, Permitted}
 use Rattle.definitions.specs.Calls.{AcceptedBook}
 use Rattle.laws.specs.AcceptedBook.{accepted_sound}
-use Rattle.theory.specs.StrictOrder.{StrictTotal}
-use Rattle.theory.specs.BookNetwork.{before_strict_total}
 use Rattle.theory.specs.FlowOrder.{FirstFlows}
 use Rattle.theory.proofs.Dictionary.{no_later_antisymmetric}
-use Rattle.theory.specs.SameClearing.{accepted_by_used, feasible_amounts, welfare_same}
+use Rattle.theory.specs.SameClearing.{feasible_amounts}
 use Rattle.theory.specs.CutClearing.{cut_clearing, cut_best, cut_permitted}
 use Rattle.theory.specs.BestClearing.{best_unique}
 use Rattle.theory.proofs.CutClearing.{cut_first_flows}

@@ -5,13 +5,12 @@ use Rattle.std.proofs.Math.Nat.{mod-add-div'}
 use Rattle.std.proofs.Math.Decide.{dec_lt}
 use Rattle.std.proofs.Math.Arith.{digits_lt}
 use Rattle.definitions.specs.Book.{Book}
-use Rattle.definitions.specs.Clearing.{before, NoGreater, equal, less}
 use Rattle.laws.specs.AcceptedBook.{Sound}
 use Rattle.laws.specs.Tests.{or_left, or_right}
 use Rattle.theory.specs.Choices.{or_cases, and_both, and_made}
 use Rattle.theory.specs.StrictOrder.{StrictTotal, FirstDifference, first_difference, not_both_less}
 use Rattle.theory.specs.Network.{SoundNetwork}
-use Rattle.theory.specs.BookNetwork.{network_of, by_lines, by_pools, by_pools_lines, network_sound, before_strict_total}
+use Rattle.theory.specs.BookNetwork.{network_of, by_lines, by_pools, by_pools_lines, network_sound}
 use Rattle.theory.specs.FlowOrder as rows
 use Rattle.theory.specs.FlowOrder.{earlier_line, NoLaterFlows}
 

@@ -1,20 +1,13 @@
 -- The pool price is the highest limit price among the pool's sales accepted above 0.
-use Rattle.std.specs.Prelude.{◌≡◌, Bool, true, false, ◌&&◌, cond, ◌⊎◌, ltb, ℤ, pos, negsuc, ◌≤ℤ◌}
+use Rattle.std.specs.Prelude.{◌≡◌, Bool, true, false, cond, ◌⊎◌}
 use Rattle.std.proofs.Math.Path.{refl}
-use Rattle.std.proofs.Common.{sym, ap, ap₂, ◌∙◌, subst, true≢false, inl, inr, arith, eq-or-lt_of_le, lt-ltb}
-use Prim.Native.Nat.{ℕ, zero, suc, ◌+◌, ◌*◌, ◌≤◌, ◌<◌, max}
+use Rattle.std.proofs.Common.{sym, ◌∙◌, subst, true≢false, inl, inr, arith, eq-or-lt_of_le}
+use Prim.Native.Nat.{ℕ, zero, suc, ◌<◌}
 use Rattle.std.proofs.Math.Nat.{suc_inj}
 use Rattle.std.specs.Int.Signed.{lt_z, ≤ℤ_refl}
-use Rattle.definitions.specs.Limits.{price_limit}
-use Rattle.definitions.specs.Arithmetic.{on, residue}
-use Rattle.definitions.specs.Book.{Book, price, sale, in_pool}
-use Rattle.definitions.specs.Machine.{minus}
-use Rattle.definitions.specs.Clearing.{PoolPrice, missing, present, higher, highest, pool_price, sells, price_residue, presence}
-use Rattle.laws.specs.Tests.{Lt?, less, more, lt?}
-use Rattle.laws.specs.Extremes.{max_to}
-use Rattle.laws.specs.AcceptedBook.{Sound, raised_price}
-use Rattle.theory.specs.Integers.{RaisedBy, raised_less, le_less, not_less}
-use Rattle.theory.specs.BookNetwork.{price_raised}
+use Rattle.definitions.specs.Book.{Book, price}
+use Rattle.definitions.specs.Clearing.{PoolPrice, present, higher, highest, pool_price, sells}
+use Rattle.theory.specs.Integers.{le_less, not_less}
 use Rattle.theory.specs.PoolPrice.{HighestPrice, none, some}
 
 module _ (B : Book) (accepted : ℕ → ℕ) (p : ℕ) where

@@ -1,8 +1,8 @@
 -- Which pools can be reached from which, with the flows of a clearing: exactly those that no set without slack parts. So it does not depend on the flows.
-use Rattle.std.specs.Prelude.{◌≡◌, true, false, ◌⊎◌, ℕ, ◌+◌, ◌*◌, ◌-◌, ◌<◌, ◌/◌, ◌%◌, ◌^◌}
+use Rattle.std.specs.Prelude.{◌≡◌, true, false, ℕ, ◌+◌, ◌*◌, ◌-◌, ◌<◌, ◌/◌, ◌%◌, ◌^◌}
 use Rattle.std.proofs.Common.{sym, ◌∙◌, subst, inl, inr, arith}
 use Rattle.std.proofs.Math.Arith.{digits_div, digits_mod, digits_lt}
-use Rattle.definitions.specs.Book.{Book, capacity}
+use Rattle.definitions.specs.Book.{Book}
 use Rattle.definitions.specs.Clearing.{Clearing, Best}
 use Rattle.definitions.specs.Calls.{AcceptedBook}
 use Rattle.laws.specs.AcceptedBook.{Sound, accepted_sound}

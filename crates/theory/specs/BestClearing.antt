@@ -1,15 +1,14 @@
 -- The best clearing of an accepted book: it exists, with permitted flows; it is unique; it has the greatest welfare.
 use Rattle.std.specs.Prelude.{◌≡◌, ℕ, ◌<◌, ℤ, ◌≤ℤ◌}
-use Rattle.std.proofs.Common.{sym, ◌∙◌, subst}
+use Rattle.std.proofs.Common.{subst}
 use Rattle.definitions.specs.Book.{Book}
 use Rattle.definitions.specs.Clearing.{Clearing, Feasible, Best, Permitted, before, used, welfare}
 use Rattle.definitions.specs.Calls.{AcceptedBook}
 use Rattle.laws.specs.AcceptedBook.{accepted_sound}
 use Rattle.theory.specs.StrictOrder.{StrictTotal}
 use Rattle.theory.specs.BookNetwork.{before_strict_total}
-use Rattle.theory.specs.FlowOrder.{FirstFlows}
 use Rattle.theory.specs.Dictionary.{no_greater_antisymmetric}
-use Rattle.theory.specs.SameClearing.{accepted_by_used, feasible_amounts, welfare_same}
+use Rattle.theory.specs.SameClearing.{accepted_by_used, welfare_same}
 use Rattle.theory.specs.CutClearing.{cut_clearing, cut_best, cut_permitted, cut_welfare}
 
 -- the merit order is a strict total order on the bids

@@ -9,14 +9,12 @@ use Rattle.definitions.specs.Book.{Book, price, purchase, sale, size, capacity}
 use Rattle.definitions.specs.Clearing.{Clearing, Feasible, before, used, welfare, value, Best, Permitted}
 use Rattle.laws.specs.AcceptedBook.{Sound, pool_index, raised_price}
 use Rattle.theory.specs.Integers.{positive_part, negative_part, subtract_read, sum_read, le_read}
-use Rattle.theory.specs.Balance.{feasible_same}
 use Rattle.theory.specs.Slacks.{line_flow}
-use Rattle.theory.specs.Flows.{WithinCuts, flow_first}
+use Rattle.theory.specs.Flows.{WithinCuts}
 use Rattle.theory.specs.Greatest.{best_used, best_within_cuts, best_greatest}
-use Rattle.theory.specs.Welfare.{FeasibleAmounts, turn, turn_turn, turn_same, paid, taken, sold_in, bought_in, sold_bought, clearing_feasible, best_clearing, best_welfare}
+use Rattle.theory.specs.Welfare.{FeasibleAmounts, turn, turn_turn, paid, taken, sold_in, bought_in, sold_bought, clearing_feasible, best_clearing, best_welfare}
 use Rattle.theory.specs.Grid.{grid_one_way}
 use Rattle.theory.specs.BookNetwork.{network_of, by_lines, by_pools, used_is, network_sound, feasible_network, network_feasible, before_strict_total, before_rises, price_raised}
-use Rattle.theory.specs.FlowOrder.{FirstFlows}
 use Rattle.theory.specs.Dictionary.{no_greater, no_greater_antisymmetric}
 
 -- used amounts as differences of ranks

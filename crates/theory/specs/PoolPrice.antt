@@ -1,10 +1,9 @@
 -- The pool price is the highest limit price among the pool's sales accepted above 0, and how a plan computes it: as a greatest of raised prices.
-use Rattle.std.specs.Prelude.{◌≡◌, Bool, true, false, ◌&&◌, cond, ◌⊎◌, ltb, ℤ, pos, negsuc, ◌≤ℤ◌}
+use Rattle.std.specs.Prelude.{◌≡◌, Bool, true, false, ◌&&◌, cond, ltb, ℤ, pos, negsuc, ◌≤ℤ◌}
 use Rattle.std.proofs.Math.Path.{refl}
-use Rattle.std.proofs.Common.{sym, ap, ap₂, ◌∙◌, subst, true≢false, inl, inr, arith, eq-or-lt_of_le, lt-ltb}
+use Rattle.std.proofs.Common.{ap, ap₂, arith, lt-ltb}
 use Prim.Native.Nat.{ℕ, zero, suc, ◌+◌, ◌*◌, ◌≤◌, ◌<◌, max}
-use Rattle.std.proofs.Math.Nat.{suc_inj}
-use Rattle.std.specs.Int.Signed.{lt_z, ≤ℤ_refl}
+use Rattle.std.specs.Int.Signed.{lt_z}
 use Rattle.definitions.specs.Limits.{price_limit}
 use Rattle.definitions.specs.Arithmetic.{on, residue}
 use Rattle.definitions.specs.Book.{Book, price, sale, in_pool}
@@ -13,7 +12,7 @@ use Rattle.definitions.specs.Clearing.{PoolPrice, missing, present, higher, high
 use Rattle.laws.specs.Tests.{Lt?, less, more, lt?}
 use Rattle.laws.specs.Extremes.{max_to}
 use Rattle.laws.specs.AcceptedBook.{Sound, raised_price}
-use Rattle.theory.specs.Integers.{RaisedBy, raised_less, le_less, not_less}
+use Rattle.theory.specs.Integers.{RaisedBy, raised_less}
 use Rattle.theory.specs.BookNetwork.{price_raised}
 
 -- Among the first k bids: none sells in pool p, or bid i does and none that does has a higher price.

@@ -13,8 +13,8 @@ use Rattle.definitions.specs.declared.Order.{Order}
 use Rattle.definitions.specs.declared.Order.TheVariants.{Constant}
 use Rattle.definitions.specs.Answers.{Refusal, none, number_of, first}
 use Rattle.definitions.specs.Bytes.{orders_bytes}
-use Rattle.definitions.specs.Calls.{counts_refusal, run_refusal, run_sheet, run_count}
-use Rattle.definitions.specs.Machine.{IsSheet, run_of, WellFormed, AllWellFormed}
+use Rattle.definitions.specs.Calls.{counts_refusal}
+use Rattle.definitions.specs.Machine.{IsSheet, WellFormed, AllWellFormed}
 use Rattle.definitions.specs.Plan as plans
 use Rattle.definitions.specs.Plan.{fitting, room_refusal, write_refusal, over, orders_written, bytes_written, written_counts, write_counts, write_slice, longest_order}
 use Rattle.laws.specs.Tests.{Lt?, less, more, lt?}

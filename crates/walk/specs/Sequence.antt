@@ -1,8 +1,8 @@
 -- What the runner does with the bytes of a whole plan.
 use Rattle.std.specs.Prelude.{ℕ, ◌≡◌, List, length}
-use Rattle.definitions.specs.Answers.{Refusal, none, number_of, first}
-use Rattle.definitions.specs.Calls.{counts_refusal, run_refusal, run_sheet, run_count}
-use Rattle.definitions.specs.Machine.{IsSheet, run_of, WellFormed, AllWellFormed}
+use Rattle.definitions.specs.Answers.{none}
+use Rattle.definitions.specs.Calls.{run_refusal, run_sheet, run_count}
+use Rattle.definitions.specs.Machine.{IsSheet, run_of}
 use Rattle.plan.specs.Plan.{plan}
 
 -- the runner accepts some bytes and runs the plan; what it leaves is a sheet

@@ -1,5 +1,4 @@
 -- `is_balanced` meets its contract. The invariant: the pools passed are in balance. The measure is how many are left.
-use Prim.Native.Nat.{◌-◌}
 use mathlib.Core.Path.{sym, ◌∙◌}
 use native.Mathlib.Omega.{arith}
 use Rattle.laws.specs.All.{all_to_begins, all_to_turn, all_to_fails}

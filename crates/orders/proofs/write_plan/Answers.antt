@@ -3,9 +3,8 @@ use mathlib.Core.Path.{◌≡◌, sym, ap, ◌∙◌}
 use Prim.Native.Nat.{ℕ}
 use lib.ListN.{length}
 use mathlib.Core.Bool.{false}
-use Rattle.definitions.specs.Answers.{Refusal, none, first, refusal_of, is_none}
+use Rattle.definitions.specs.Answers.{Refusal, first, refusal_of, is_none}
 use Rattle.definitions.specs.declared.Verdict.{Verdict}
-use Rattle.definitions.specs.Calls.{counts_refusal}
 use Rattle.definitions.specs.Plan.{nothing_written, room_refusal, write_refusal, write_counts, write_slice}
 use Rattle.laws.specs.Search.{turned_away, let_through}
 use Rattle.plan.specs.Plan.{plan}

@@ -1,5 +1,5 @@
 -- `list_results` meets its contract: opening refuses nothing, and its results are as many as the listing asks for.
-use Rattle.std.proofs.Common.{◌≡◌, ℤ, List, length, refl, ◌∙◌}
+use Rattle.std.proofs.Common.{◌≡◌, length, refl, ◌∙◌}
 use mir.Facts.{to_z-of_z}
 use Rattle.definitions.specs.Calls.{opened_results}
 use Rattle.settlement.proofs.Listed.{opened, listed_size, listed_slice}

@@ -1,5 +1,4 @@
 -- `settle_book` meets its contract: without room nothing is done; with it what clearing says decides, and an accepted book's sheet opens.
-use Prim.Native.Nat.{◌≤◌}
 use mathlib.Core.Path.{◌≡◌, ◌∙◌}
 use native.Mathlib.Omega.{arith}
 use lib.ListN.{length}
@@ -10,7 +9,6 @@ use Rattle.definitions.specs.Calls.{seal_refusal}
 use Rattle.definitions.specs.Settle.{readable, refused}
 use Rattle.laws.specs.SignedTests.{back}
 use Rattle.laws.specs.Search.{turned_away, let_through}
-use Rattle.listing.specs.Text.{text_room}
 use Rattle.plan.specs.Plan.{plan}
 use Rattle.settlement.specs.Settled.{settled_text}
 use Rattle.settlement.proofs.Texts.{no_room, size_of, slice_of, same_size, same_slice, refused_text_lem, opens, accepted_text}

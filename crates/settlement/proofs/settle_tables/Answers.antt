@@ -1,5 +1,5 @@
 -- `settle_tables` meets its contract: refused counts are a refused book, and others call for no more numbers than a text gives.
-use Prim.Native.Nat.{ℕ, ◌-◌, ◌*◌}
+use Prim.Native.Nat.{ℕ, ◌*◌}
 use mathlib.Core.Path.{◌≡◌, sym, ap, ◌∙◌}
 use mathlib.Core.Bool.{false}
 use lib.ListN.{length, take, drop}

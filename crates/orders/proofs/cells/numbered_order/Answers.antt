@@ -11,7 +11,7 @@ pub returns-then-kind-eq-CONSTANT : goal.returns-then-kind-eq-CONSTANT
 returns-then-kind-eq-CONSTANT c = constant_numbered c.args.n c.args.m c.args.o _ c.if-kind-eq-CONSTANT.true c.cell_of-d.ensures
 
 -- the machine's order of the kind on the three cells is that for the names
-operated : (c : After-cell_of-b) → 
+operated : (c : After-cell_of-b) →
     order_of (operate (operation_of c.args.o.0) c.cell_of-d.result c.cell_of-a.result c.cell_of-b.result)
     ≡ numbered_of c.args.n c.args.m (named_of c.args.o)
 operated c =

@@ -1,6 +1,6 @@
 -- `layout_of` meets its contract. The loop has laid the first f families; the next begins on the sheet.
 use mathlib.Core.Path.{◌≡◌, refl, ap, ◌∙◌}
-use Prim.Native.Nat.{ℕ, ◌+◌, ◌-◌, ◌*◌, ◌^◌, ◌≤◌}
+use Prim.Native.Nat.{ℕ, ◌+◌, ◌*◌, ◌^◌, ◌≤◌}
 use native.Mathlib.Omega.{arith}
 use Rattle.definitions.specs.Limits.{cell_count}
 use Rattle.plan.specs.declared.Place.{Place}
@@ -12,7 +12,7 @@ pub loop-f-init : goal.loop-f-init
 loop-f-init c = let a = c.args in (laid_none a.n a.m _ refl, first_start a.n a.m)
 
 -- the place found is that of family f
-placed : (c : After-place_of-place) → 
+placed : (c : After-place_of-place) →
     c.place_of-place.result ≡ place_at c.args.n c.args.m (c.args.m * c.args.m) (2 ^ c.args.m) c.loop-f.f
 placed c =
     let a = c.args in

@@ -1,5 +1,4 @@
 -- `run_part` meets its contract. The loop has run the first j columns.
-use Prim.Native.Nat.{◌-◌}
 use Rattle.orders.specs.Runs.{ran_none, ran_one}
 use Rattle.orders.proofs.run.run_part.Goals as goal
 

@@ -1,5 +1,4 @@
 -- `run_phase` meets its contract. The loop has run the first i rows.
-use Prim.Native.Nat.{◌-◌}
 use Rattle.plan.specs.Phased.{row_of}
 use Rattle.plan.specs.Table.{phase_at}
 use Rattle.orders.specs.Runs.{ran_none, ran_one}

@@ -1,7 +1,7 @@
 -- `run_phases` meets its contract. The loop has run the first k phases.
 use mathlib.Core.Path.{sym, ap, ◌∙◌}
 use mathlib.Core.List.{List}
-use Prim.Native.Nat.{ℕ, ◌-◌}
+use Prim.Native.Nat.{ℕ}
 use Rattle.plan.specs.Orders.{OrderOn}
 use Rattle.plan.specs.Names.{Name}
 use Rattle.plan.specs.Loops.{loop}

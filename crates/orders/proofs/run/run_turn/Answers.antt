@@ -1,5 +1,4 @@
 -- `run_turn` meets its contract. The loop has run the first r orders of the block.
-use Prim.Native.Nat.{◌-◌}
 use native.Mathlib.Omega.{arith}
 use Rattle.plan.specs.Table.{phase_at}
 use Rattle.orders.specs.Cells.{order_ready}

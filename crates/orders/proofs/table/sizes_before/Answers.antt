@@ -10,12 +10,12 @@ pub returns-then-q-eq0 : goal.returns-then-q-eq0
 returns-then-q-eq0 c = let a = c.args in one_of (size_before_phase a.n a.m) a.i a.q 0 a.j a.r c.if-q-eq0.true c.requires refl
 
 pub returns-then-r-eq0 : goal.returns-then-r-eq0
-returns-then-r-eq0 c =    let a = c.args in
+returns-then-r-eq0 c = let a = c.args in
     c.test_order.ensures ∙ head_of (size_before_phase a.n a.m) a.i a.q 1 a.j a.r
     (omega (arith, c.if-q-eq0.false, c.requires.part)) c.if-r-eq0.true
 
 pub returns : goal.returns
-returns c =    let a = c.args in
+returns c = let a = c.args in
     let e = in_part (size_before_phase a.n a.m) a.i a.q 1 a.j a.r (omega (arith, c.if-q-eq0.false, c.requires.part))
     c.requires in
     c.gain_turn.ensures

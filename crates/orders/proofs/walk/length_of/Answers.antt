@@ -1,6 +1,6 @@
 -- `length_of` meets its contract. The loop has counted the first k phases.
 use mathlib.Core.Path.{sym, ◌∙◌}
-use Prim.Native.Nat.{◌+◌, ◌-◌}
+use Prim.Native.Nat.{◌+◌}
 use lib.ListN.{get_or}
 use native.Mathlib.Omega.{arith}
 use Rattle.plan.specs.Table.{table, phase_at, table_length}

@@ -1,6 +1,6 @@
 -- `phase_from` meets its contract. The loop has gone past the phases before l.
 use mathlib.Core.Path.{refl}
-use Prim.Native.Nat.{◌+◌, ◌-◌, ◌<◌}
+use Prim.Native.Nat.{◌+◌, ◌<◌}
 use lib.ListN.{length, get_or}
 use native.Mathlib.Omega.{arith}
 use Rattle.plan.specs.Phased.{flat_length}

@@ -1,7 +1,7 @@
 -- `write_from` meets its contract. The loop keeps `Filled`: the orders so far, all that fit of them, are written in front of what the slice held,
 -- and (k, x) is a place of the next position. The measure is how many orders are left.
 use mathlib.Core.Path.{◌≡◌, refl, sym, ap, subst, ◌∙◌}
-use Prim.Native.Nat.{ℕ, ◌+◌, ◌-◌, ◌≤◌, ◌<◌}
+use Prim.Native.Nat.{ℕ, ◌+◌, ◌≤◌, ◌<◌}
 use lib.ListN.{length}
 use native.Mathlib.Omega.{arith}
 use Rattle.definitions.specs.declared.Order.{Order}
@@ -99,6 +99,6 @@ returns c =
     let filled = loop.invariant.filled in
     let a = c.args in
     let end = ends plan a.n a.m a.at a.out.now loop.out loop.next loop.bytes loop.orders filled
-        (at_end plan a.n a.m a.at a.out.now loop.out loop.next loop.bytes loop.orders filled
-        (omega (arith, filled.stands, c.loop-next-test.false, c.requires.total_value))) in
+    (at_end plan a.n a.m a.at a.out.now loop.out loop.next loop.bytes loop.orders filled
+    (omega (arith, filled.stands, c.loop-next-test.false, c.requires.total_value))) in
     record { verdict = refl; counts = end.0; slice = end.1 }
