@@ -20,7 +20,7 @@ use Rattle.laws.specs.AcceptedBook.{Sound, accepted_sound}
 use Rattle.plan.specs.Plan.{plan}
 use Rattle.clearing.specs.PlanClears.{plan_outcome}
 use Rattle.orders.specs.Runs.{stepped_plan, stepped_plan_is}
-use Rattle.clearing.specs.Amounts.{AmountsOnSheet}
+use Rattle.clearing.specs.Amounts.{AmountsWithin}
 use Rattle.plan.proofs.SealedSheet.{sealed_is_sheet}
 
 module _ (B : Book) (lent : List ℕ) where
@@ -71,7 +71,7 @@ module _ (B : Book) (lent : List ℕ) where
     sheet_given = sym (given (plan_run plan B) lent)
 
     -- no more is accepted than a bid's size
-    pub amounts_within_lem : AmountsOnSheet B.n B.m B.bids (plan_run plan B)
+    pub amounts_within_lem : AmountsWithin B.n B.m B.bids (plan_run plan B)
     amounts_within_lem =
         let sound : Sound B = accepted_sound B book_accepted in
         let outcome = plan_outcome B book_accepted in
@@ -80,6 +80,7 @@ module _ (B : Book) (lent : List ℕ) where
           few_pools = sound.pools;
           table = sound.bid_table;
           cells = outcome.cells;
+          prices = sound.price_size;
           amounts = λ i l. omega (arith, outcome.best.feasible.amounts i l, sound.size_small i l);
         }
 

@@ -10,13 +10,15 @@ ghost use Rattle.definitions.specs.Machine.{cell};
 ghost use Rattle.definitions.specs.Calls.{seal_refusal};
 ghost use Rattle.definitions.specs.Outcome.{clear_sheet, clear_count, clear_welfare};
 ghost use Rattle.plan.specs.Plan.{plan};
-ghost use Rattle.clearing.specs.Amounts.{AmountsOnSheet};
+ghost use Rattle.clearing.specs.Amounts.{AmountsWithin};
 
+use crate::welfare::welfare;
 use answers::is_accepted;
 use definitions::{Limits, Verdict};
 use orders::run_plan;
 use sealing::seal;
-use sums::welfare;
+
+mod welfare;
 
 // What clearing gives: count and welfare are 0 on a refusal.
 #[derive(Drop)]
@@ -28,7 +30,7 @@ pub struct Cleared {
 
 // The welfare of the accepted amounts that a sheet holds.
 fn welfare_of(n: usize, m: usize, bids: &[i32], sheet: &[u32]) -> i64
-    requires { AmountsOnSheet n m bids.now sheet.now }
+    requires { AmountsWithin n m bids.now sheet.now }
     ensures { (capacities : List ℤ) → result ≡ clearing.welfare (book n m bids.now capacities) (λ i. cell sheet.now (amount_cell n m i)) }
 {
     let first = Limits::BID_NUMBERS * n + m * m;

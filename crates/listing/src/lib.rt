@@ -1,7 +1,7 @@
 // What settle prints, written to a slice that the caller lends: the listing of opened results, a refusal, or that the text is unreadable.
 #![tactic(auto)]
 
-ghost use Rattle.std.specs.Prelude.{◌≡◌, ◌++◌, ◌+◌, ◌*◌, ◌<◌, ◌≤◌, length};
+ghost use Rattle.std.specs.Prelude.{◌≡◌, ◌++◌, ◌+◌, ◌*◌, ◌<◌, ◌≤◌, length, nat_abs};
 ghost use Rattle.definitions.specs.Settle.{decimal_to, decimal, decimal_z, bid_line, flow_line, price_line, welfare_line, bid_lines, flow_lines, price_lines, listing, refused_text};
 ghost use Rattle.definitions.specs.Sheet.{result_count};
 ghost use Rattle.listing.specs.Lines.{last_field, row_lines};
@@ -11,7 +11,6 @@ ghost use Rattle.listing.specs.Text.{listable, listing_size, listing_slice, refu
 use answers::is_accepted;
 use definitions::Limits;
 use judging::judge_results;
-use sums::size;
 
 // The bytes that a caller lends: no text is longer.
 #[derive(Drop)]
@@ -53,6 +52,16 @@ fn put_digits(out: &mut [u8], at: usize, v: usize, k: usize) -> usize
     let last = put_digits(out, at, v / 10, k - 1);
     out[last] = b'0' + (v % 10) as u8;
     last + 1
+}
+
+// The size of a number, also of the least one.
+pub fn size(v: i64) -> usize
+    ensures { result ≡ nat_abs v }
+{
+    if v < 0 {
+        return (-1 - v) as usize + 1;
+    }
+    v as usize
 }
 
 // A whole number: its digits, with a minus before them if it is below 0.

@@ -1,4 +1,5 @@
 -- What settle prints for a text that was read, and for every text.
+pub mod Opens
 pub mod Settled
 pub mod WholeText
 pub mod Printed

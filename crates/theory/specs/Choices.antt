@@ -5,6 +5,10 @@ use Rattle.std.proofs.Math.Nat.{suc_inj}
 use Rattle.definitions.specs.Arithmetic.{on, sum_to}
 use Rattle.laws.specs.Sum.{sum_zero}
 
+pub on_le : (t : Bool) (v : ℕ) → on t v ≤ v
+on_le true v = omega arith
+on_le false v = omega arith
+
 pub on_monotone : (t : Bool) (v w : ℕ) → v ≤ w → on t v ≤ on t w
 on_monotone true v w h = h
 on_monotone false v w h = omega arith

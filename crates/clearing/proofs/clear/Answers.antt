@@ -16,7 +16,7 @@ use Rattle.laws.specs.SignedTests.{back}
 use Rattle.laws.specs.Search.{turned_away, let_through}
 use Rattle.plan.specs.Plan.{plan}
 use Rattle.plan.proofs.Asking.{total_accepted}
-use Rattle.clearing.specs.Amounts.{AmountsOnSheet}
+use Rattle.clearing.specs.Amounts.{AmountsWithin}
 use Rattle.clearing.proofs.Sealing.{refused_count, refused_welfare, refused_sheet, counts_pass, count_given, welfare_given, sheet_given, amounts_within_lem, run_left}
 use mathlib.Core.Bool.{not}
 use Rattle.clearing.proofs.clear.Goals as goal
@@ -52,7 +52,7 @@ ran c = run_left (book_run c) c.args.sheet.now (accepted c) _ _ c.seal-verdict.e
 pub welfare_of-welfare-requires : goal.welfare_of-welfare-requires
 welfare_of-welfare-requires c =
     let run = (goal.at.welfare_of-welfare-requires c).After-run_plan-orders in
-    subst (AmountsOnSheet c.args.n c.args.m c.args.bids.now) (sym (ran run)) (amounts_within_lem (book_run run) c.args.sheet.now (accepted run))
+    subst (AmountsWithin c.args.n c.args.m c.args.bids.now) (sym (ran run)) (amounts_within_lem (book_run run) c.args.sheet.now (accepted run))
 
 pub returns-clause-orders : goal.returns-clause-orders
 returns-clause-orders c =

@@ -12,13 +12,5 @@ pub returns : goal.returns
 returns c capacities =
     let first : ℕ = first_result c.args.n c.args.m in
     back w64 _ c.welfare.type_inv
-    ∙ c.welfare.ensures
-    ∙ amounts_welfare c.args.n c.args.m c.args.bids.now c.args.sheet.now c.requires (first + c.args.n - first) (omega arith) capacities
-
-returned : goal.the-fitted-returns
-returned c capacities =
-    let start = c.before.before.before in
-    let first : ℕ = first_result start.args.n start.args.m in
-    back w64 _ c.welfare.type_inv
-    ∙ c.welfare.ensures
-    ∙ amounts_welfare start.args.n start.args.m start.args.bids.now start.args.sheet.now start.requires (first + start.args.n - first) (omega arith) capacities
+    ∙ amounts_welfare c.args.n c.args.m c.args.bids.now c.args.sheet.now c.requires
+    (first + c.args.n - first) (omega arith) c.welfare.result c.welfare.ensures capacities
