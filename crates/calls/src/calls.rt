@@ -8,7 +8,10 @@ use definitions::{Order, Parts, Verdict};
 use judging::judge_bid;
 use opening::open;
 use orders::{Asked, Plan, Position, Written, write_plan};
-use printing::{print_number, print_numbers, print_verdict};
+use printing::{
+    print_bytes, print_integers, print_number, print_numbers, print_signed, print_verdict,
+    print_words,
+};
 use runner::run;
 use sealing::seal;
 use std::io;
@@ -56,7 +59,7 @@ fn print_next(rt: &impl Print, position: usize) -> io::Result<()> {
 }
 
 fn print_sheet(rt: &impl Print, sheet: &[u32]) -> io::Result<()> {
-    print_numbers(rt, b"sheet", sheet)
+    print_words(rt, b"sheet", sheet)
 }
 
 // ---- A bid alone: m and the bid's numbers
@@ -97,7 +100,7 @@ fn call_clear(
 ) -> io::Result<()> {
     let cleared = clear(n, m, bids, capacities, sheet);
     print_counted(rt, cleared.verdict, cleared.orders)?;
-    print_number(rt, b"welfare", cleared.welfare)?;
+    print_signed(rt, b"welfare", cleared.welfare)?;
     print_sheet(rt, sheet)
 }
 
@@ -164,7 +167,7 @@ fn lend_results(
     copy_words(input, 3, sheet);
     copy_signed(input, second, results);
     print_verdict(rt, open(number(input, 1), number(input, 2), sheet, results))?;
-    print_numbers(rt, b"results", results)
+    print_integers(rt, b"results", results)
 }
 
 pub fn call_open(rt: &impl Print, input: &[u8]) -> io::Result<bool> {
@@ -277,7 +280,7 @@ fn lend_slice(rt: &impl Print, input: &[u8], slice: &mut [u8]) -> io::Result<()>
         rt,
         write_plan(number(input, 1), number(input, 2), number(input, 3), slice),
     )?;
-    print_numbers(rt, b"slice", slice)
+    print_bytes(rt, b"slice", slice)
 }
 
 pub fn call_write(rt: &impl Print, input: &[u8]) -> io::Result<bool> {
@@ -308,7 +311,7 @@ fn lend_view(
     let n = number(input, 1);
     let m = number(input, 2);
     print_verdict(rt, view(n, m, table, word(input, 3), results, out))?;
-    print_numbers(rt, b"view", out)
+    print_integers(rt, b"view", out)
 }
 
 pub fn call_view(rt: &impl Print, input: &[u8]) -> io::Result<bool> {

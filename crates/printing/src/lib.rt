@@ -109,6 +109,22 @@ pub fn print_number<P: Print, N: Integer>(rt: &P, name: &[u8], v: N) -> io::Resu
     write_line(rt, &out, end)
 }
 
+pub fn print_integers<P: Print>(rt: &P, name: &[u8], integers: &[i32]) -> io::Result<()> {
+    print_numbers(rt, name, integers)
+}
+
+pub fn print_words<P: Print>(rt: &P, name: &[u8], words: &[u32]) -> io::Result<()> {
+    print_numbers(rt, name, words)
+}
+
+pub fn print_bytes<P: Print>(rt: &P, name: &[u8], bytes: &[u8]) -> io::Result<()> {
+    print_numbers(rt, name, bytes)
+}
+
+pub fn print_signed<P: Print>(rt: &P, name: &[u8], v: i64) -> io::Result<()> {
+    print_number(rt, name, v)
+}
+
 pub fn print_pair<P: Print>(rt: &P, name: &[u8], a: usize, b: usize) -> io::Result<()> {
     print_numbers(rt, name, &[a, b])
 }
