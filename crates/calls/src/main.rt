@@ -1,5 +1,5 @@
 // One call of the unit, from outside: the words of standard input say which call it is and what it is lent, and what it gives and leaves is printed.
-// Input that is no call's, word for word, prints `unreadable`. So does input that is too long, or of which a failed read leaves only a part.
+// Input that is no call's, word for word, prints `unreadable`. So does a part of a call's input, which a failed read would leave: it lacks words.
 #![tactic(auto)]
 
 use crate::calls::{
@@ -29,16 +29,17 @@ fn call(rt: &impl Print, input: &[u8]) -> io::Result<bool> {
     }
 }
 
-fn read_and_call(rt: HostRuntime, bytes: &mut [u8]) -> io::Result<bool> {
-    let gathered = gather(&mut rt.stdin(), bytes);
-    if !gathered.whole {
+// One byte more than there is room for tells that the input is too long.
+fn read_and_call(rt: HostRuntime, bytes: &mut [u8; Words::BYTES + 1]) -> io::Result<bool> {
+    let size = gather(&mut rt.stdin(), bytes).size;
+    if Words::BYTES < size {
         return Ok(false);
     }
-    call(&rt, &bytes[..gathered.size])
+    call(&rt, &bytes[..size])
 }
 
 fn main(rt: HostRuntime) -> io::Result<()> {
-    let mut bytes = [0u8; Words::BYTES];
+    let mut bytes = [0u8; Words::BYTES + 1];
     if read_and_call(rt, &mut bytes)? {
         return Ok(());
     }

@@ -23,6 +23,9 @@ use text::Reader;
 // The bytes that are read at once.
 const PIECE: usize = 4_096;
 
+// What a read answers at the end of the input.
+const END: isize = 0;
+
 // What a read leads to: more of the text is to be read, or the text is over.
 #[derive(Drop)]
 enum Turn {
@@ -38,7 +41,7 @@ fn take_turn(reader: Reader, got: isize, piece: &[u8], numbers: &mut [i32; Reade
     if got < 0 {
         return Turn::Over(reader.break_off(numbers));
     }
-    if got == 0 {
+    if got == END {
         return Turn::Over(reader.finish(numbers));
     }
     let size = count(got, piece);

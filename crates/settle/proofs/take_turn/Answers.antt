@@ -42,21 +42,21 @@ returns-then-got-lt0-clause-numbers_after c =
     rw (failed (read_so_far c.args.reader c.args.numbers.now) c.args.got c.args.piece.now (answer (to_z-of_z c.ranges.got) c.if-got-lt0.true))
     c.break_off.ensures.numbers_after
 
-pub returns-then-got-eq0-clause-value : goal.returns-then-got-eq0-clause-value
-returns-then-got-eq0-clause-value c =
-    rw (ended (read_so_far c.args.reader c.args.numbers.now) c.args.got c.args.piece.now (sym (to_z-of_z c.ranges.got) ∙ ap (to_z w64) c.if-got-eq0.true))
+pub returns-then-got-eq-END-clause-value : goal.returns-then-got-eq-END-clause-value
+returns-then-got-eq-END-clause-value c =
+    rw (ended (read_so_far c.args.reader c.args.numbers.now) c.args.got c.args.piece.now (sym (to_z-of_z c.ranges.got) ∙ ap (to_z w64) c.if-got-eq-END.true))
     (ap Over c.finish.ensures.value)
 
-pub returns-then-got-eq0-clause-numbers_after : goal.returns-then-got-eq0-clause-numbers_after
-returns-then-got-eq0-clause-numbers_after c =
-    rw (ended (read_so_far c.args.reader c.args.numbers.now) c.args.got c.args.piece.now (sym (to_z-of_z c.ranges.got) ∙ ap (to_z w64) c.if-got-eq0.true))
+pub returns-then-got-eq-END-clause-numbers_after : goal.returns-then-got-eq-END-clause-numbers_after
+returns-then-got-eq-END-clause-numbers_after c =
+    rw (ended (read_so_far c.args.reader c.args.numbers.now) c.args.got c.args.piece.now (sym (to_z-of_z c.ranges.got) ∙ ap (to_z w64) c.if-got-eq-END.true))
     c.finish.ensures.numbers_after
 
 pub returns-clause-value : goal.returns-clause-value
 returns-clause-value c =
     rw (
       onward (read_so_far c.args.reader c.args.numbers.now) c.args.got c.args.piece.now (answer (to_z-of_z c.ranges.got) c.if-got-lt0.false)
-          (λ q. c.if-got-eq0.false (ap (of_z w64) q)),
+          (λ q. c.if-got-eq-END.false (ap (of_z w64) q)),
       sym (c.count-size.ensures.value ∙ ap (λ (z : ℤ). clamp_len z (length c.args.piece.now)) (to_z-of_z c.ranges.got)),
     )
     (ap More c.feed.ensures.value)
@@ -65,7 +65,7 @@ pub returns-clause-numbers_after : goal.returns-clause-numbers_after
 returns-clause-numbers_after c =
     rw (
       onward (read_so_far c.args.reader c.args.numbers.now) c.args.got c.args.piece.now (answer (to_z-of_z c.ranges.got) c.if-got-lt0.false)
-          (λ q. c.if-got-eq0.false (ap (of_z w64) q)),
+          (λ q. c.if-got-eq-END.false (ap (of_z w64) q)),
       sym (c.count-size.ensures.value ∙ ap (λ (z : ℤ). clamp_len z (length c.args.piece.now)) (to_z-of_z c.ranges.got)),
     )
     c.feed.ensures.numbers_after
