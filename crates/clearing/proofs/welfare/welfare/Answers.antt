@@ -1,6 +1,6 @@
 -- `welfare` meets its contract. The loop's invariant: the total is the sum of the signed values of the bids passed, which bounds its size.
 -- The measure is the number of bids left.
-use Prim.Native.Nat.{ℕ, ◌+◌, ◌*◌, ◌-◌, ◌<◌}
+use Prim.Native.Nat.{ℕ, ◌+◌, ◌*◌, ◌<◌}
 use mathlib.Core.Path.{◌≡◌, sym, ap, ap₂, ◌∙◌, subst}
 use mathlib.Core.List.{List, []}
 use native.Mathlib.Omega.{arith}

@@ -4,8 +4,6 @@ use mathlib.Core.Path.{◌≡◌}
 use mathlib.Core.List.{List, []}
 use lib.IntN.{ℤ}
 use lib.ListN.{length, get_or}
-use mir.Syntax.{w64}
-use mir.Val.{to_z}
 use Rattle.definitions.specs.Arithmetic.{sum_z}
 use Rattle.definitions.specs.Book.{Book, book}
 use Rattle.clearing.specs.Welfare.{bid_value}
