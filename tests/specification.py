@@ -13,8 +13,8 @@ import sys
 TOKEN = re.compile(r'[^\s(){}\[\];,.«»"`:⌜⌝λ]+')
 HEAD = re.compile(r'^(abbrev |unfoldable )?(pub )?(data |record )?([^\s(){}:;=]+)(?: [({](?:[^(){}]|\([^()]*\))*[)}])* : ')
 BOUND = re.compile(r'[({]([^\s(){}:]+(?: [^\s(){}:]+)*) : ')
-USE = re.compile(r'^(?:ghost |unfoldable )?(?:pub )?use Rattle\.(?!std\b)(\w+)\.specs\.([\w.]+?)(?:\.\{([^}]*)\}| as (\w+))?;?$')
-STOP = {('plan', 'Numbered', 'plan')}
+USE = re.compile(r'^(?:ghost |unfoldable )?(?:pub )?use Rattle\.(?!std\b)(\w+)\.((?:specs|proofs)\.[\w.]+?)(?:\.\{([^}]*)\}| as (\w+))?;?$')
+STOP = {('plan', 'specs.Numbered', 'plan')}
 
 
 def read(path):
@@ -28,7 +28,7 @@ def code_lines(path):
 
 
 class Imports:
-    """what the names of a file mean: (crate, module, name) for those that come from specs/"""
+    """what the names of a file mean: (crate, module, name) for those that come from specs/ and from the theorems' files in proofs/"""
 
     def __init__(self, lines, own=None):
         self.names, self.modules = {}, {}
@@ -37,7 +37,7 @@ class Imports:
             if not found:
                 continue
             crate, module, names, alias = found.groups()
-            if module.startswith('declared'):
+            if module.split('.')[1] == 'declared':
                 continue
             if names is None:
                 self.modules[alias or module.split('.')[-1]] = (crate, module)
@@ -82,7 +82,7 @@ class Declaration:
 
 
 def declarations(path):
-    """the declarations of a file of specs/ by name, the data types of its constructors, and the fields of its records"""
+    """the declarations of a file of specs/ or proofs/ by name, the data types of its constructors, and the fields of its records"""
     found, constructors, fields, sections, current = {}, {}, set(), [], None
     for line in code_lines(path):
         if not line.strip() or line.startswith(('use ', 'pub use ', 'pub mod ')):
@@ -110,11 +110,11 @@ def declarations(path):
 
 
 def specifications():
-    """(crate, module) to its declarations, constructors, fields and imports"""
+    """(crate, module) to its declarations, constructors, fields and imports; what stands in a folder of proofs/ is the proof of one function"""
     modules = {}
-    for path in glob.glob('crates/*/specs/**/*.antt', recursive=True):
-        crate = path.split('/')[1]
-        module = path.split('/specs/')[1][:-5].replace('/', '.')
+    for path in glob.glob('crates/*/specs/**/*.antt', recursive=True) + glob.glob('crates/*/proofs/*.antt'):
+        _, crate, *module = path[:-5].split('/')
+        module = '.'.join(module)
         found, constructors, fields = declarations(path)
         own = (crate, module, set(found) | set(constructors))
         modules[crate, module] = (found, constructors, fields, Imports(code_lines(path), own))
@@ -197,7 +197,7 @@ def listed():
     found = set()
     table = read('docs/SPECIFICATION.md').split('## Beside the definitions')[1].split('\n## ')[0]
     for line in table.split('\n'):
-        row = re.match(r'\| `(\w+)/specs/([\w/]+)` \| (.*?) \|', line)
+        row = re.match(r'\| `(\w+)/((?:specs|proofs)/[\w/]+)` \| (.*?) \|', line)
         if row:
             crate, module, names = row.groups()
             found |= {(crate, module.replace('/', '.'), name) for name in re.findall(r'`([^`]+)`', names)}
@@ -210,7 +210,7 @@ def main():
     needed, there = believed(modules, start), listed()
     for word, rows in (('is not listed', needed - there), ('is listed and not cited', there - needed)):
         for crate, module, name in sorted(rows):
-            print(f'{crate}/specs/{module}: {name} {word}')
+            print(f'{crate}/{module.replace(".", "/")}: {name} {word}')
     if unknown or needed != there:
         sys.exit('docs/SPECIFICATION.md does not list what stands beside the definitions')
     print(f"the specification: {len(needed)} definitions beside those of the documents, all listed")
