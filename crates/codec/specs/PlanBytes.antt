@@ -1,5 +1,5 @@
--- A list of orders and its bytes: orders are read back from their bytes (orders-read-back), bytes that are accepted are those of the orders read (accepted-bytes-shortest),
--- and orders whose bytes are accepted are the machine's (accepted-only).
+-- A list of orders and its bytes: orders are read back from their bytes (orders_read_back), bytes that are accepted are those of the orders read (accepted_bytes_shortest),
+-- and orders whose bytes are accepted are the machine's (accepted_only).
 use Prim.Native.Nat.{ℕ, zero, suc, ◌+◌, ◌-◌, ◌<◌, ◌≤◌}
 use Rattle.std.specs.Prelude.{◌≡◌, Bool, cond}
 use Rattle.std.proofs.Math.Path.{refl, sym, ap}

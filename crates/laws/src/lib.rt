@@ -1,3 +1,2 @@
-#![tactic(auto)]
-
 // Facts that several crates cite; all of them stand in specs/.
+#![tactic(auto)]

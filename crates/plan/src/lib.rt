@@ -1,6 +1,6 @@
+// The plan: the list of orders that clears every book of given counts; the list stands in specs/, what its run leaves in proofs/.
 #![tactic(auto)]
 
-// The plan: the list of orders that clears every book of given counts; the list and what its run leaves stand in specs/.
 // The families of cells, in their order on the sheet: inputs, results, then scratch.
 #[derive(Drop)]
 pub enum Family {

@@ -1,5 +1,5 @@
 -- The numbers that a plan computes from a book's numbers, each a sum, a least or a greatest over an index. A set of pools is a number below 2 ^ m.
--- demand, cut, cost, rank, slack, rest_of and lineFlow are here those of a book; Network, Rank and Slacks have them for any network.
+-- demand, cut, cost, rank, slack, rest_of and line_flow are here those of a book; Network, Rank and Slacks have them for any network.
 use Rattle.std.specs.Prelude.{ℕ, zero, suc, ◌+◌, ◌-◌, ◌*◌, ◌/◌, ◌%◌, ◌^◌, Bool, not, ◌&&◌, cond, ltb, eqb}
 use Rattle.definitions.specs.Limits.{price_limit, greatest_positive}
 use Rattle.definitions.specs.Arithmetic.{on, sum_to}

@@ -1,6 +1,6 @@
 -- The best clearing exists, is unique, has the greatest welfare (BestClearing), and is given by cuts (ClosedBest).
--- A law is named after what it is about; its ending says what is said: -is (it equals another form), -same (equal numbers give
--- an equal result), -ext (only what is below a count matters), -one (one term of a sum), -small or -le (a bound).
+-- A law is named after what it is about; its ending says what is said: _is (it equals another form), _same (equal numbers give
+-- an equal result), _ext (only what is below a count matters), _one (one term of a sum), _small or _le (a bound).
 -- Numbers, tests and orders.
 pub mod Choices
 pub mod Integers
