@@ -1,10 +1,11 @@
--- What a call says of its input: the documents' number and place for each case of a verdict, and document 01's number for each kind of order.
-use Rattle.std.specs.Prelude.{ℕ, zero, suc, Bool, true, false}
+-- What a call says of its input: the documents' number and place for each reason to refuse it, and document 01's number for each kind of order.
+use Rattle.std.specs.Prelude.{ℕ, zero, suc, Bool, true, false, Ok, Err}
+use Rattle.std.specs.declared.result.Result.{Result}
 use Rattle.definitions.specs.declared.Order.{Order}
 use Rattle.definitions.specs.declared.Parts.{Parts}
 use Rattle.definitions.specs.declared.Order.TheVariants.{Constant, Sum, Difference, Product, Less, Equal}
-use Rattle.definitions.specs.declared.Verdict.{Verdict}
-use Rattle.definitions.specs.declared.Verdict.TheVariants.{Accepted, BidCount, PoolCount, Length, Pool, Price, Quantity, Capacity, Diagonal, CutShort, Kind, Form, Operand, Position, Room, Cell, Holder}
+use Rattle.definitions.specs.declared.Reason.{Reason}
+use Rattle.definitions.specs.declared.Reason.TheVariants.{BidCount, PoolCount, Length, Pool, Price, Quantity, Capacity, Diagonal, CutShort, Kind, Form, Operand, Position, Room, Cell, Holder}
 
 -- "Each refusal is a number and a place"
 pub data Refusal : Type 0 where
@@ -41,25 +42,34 @@ abbrev pub unless : {A : Type 0} → Refusal → (given before : A) → A
 unless none given before = given
 unless (refuse number place) given before = before
 
--- the refusal that each verdict states
-abbrev pub refusal_of : Verdict → Refusal
-refusal_of Accepted = none
-refusal_of BidCount = refuse 1 0
-refusal_of PoolCount = refuse 2 0
-refusal_of Length = refuse 3 0
-refusal_of (Pool bid) = refuse 4 bid
-refusal_of (Price bid) = refuse 5 bid
-refusal_of (Quantity bid) = refuse 6 bid
-refusal_of (Capacity entry) = refuse 7 entry
-refusal_of (Diagonal entry) = refuse 8 entry
-refusal_of (CutShort offset) = refuse 9 offset
-refusal_of (Kind offset) = refuse 10 offset
-refusal_of (Form offset) = refuse 11 offset
-refusal_of (Operand offset) = refuse 12 offset
-refusal_of Position = refuse 13 0
-refusal_of Room = refuse 14 0
-refusal_of (Cell c) = refuse 15 c
-refusal_of Holder = refuse 16 0
+-- the refusal that each reason states
+abbrev pub stated : Reason → Refusal
+stated BidCount = refuse 1 0
+stated PoolCount = refuse 2 0
+stated Length = refuse 3 0
+stated (Pool bid) = refuse 4 bid
+stated (Price bid) = refuse 5 bid
+stated (Quantity bid) = refuse 6 bid
+stated (Capacity entry) = refuse 7 entry
+stated (Diagonal entry) = refuse 8 entry
+stated (CutShort offset) = refuse 9 offset
+stated (Kind offset) = refuse 10 offset
+stated (Form offset) = refuse 11 offset
+stated (Operand offset) = refuse 12 offset
+stated Position = refuse 13 0
+stated Room = refuse 14 0
+stated (Cell c) = refuse 15 c
+stated Holder = refuse 16 0
+
+-- the refusal of what a call answers: none with what it gives, else its reason's
+abbrev pub refusal_of : {A : Type 0} → Result A Reason → Refusal
+refusal_of (Ok given) = none
+refusal_of (Err reason) = stated reason
+
+-- what a call gives: on a refusal nothing, for which its counts are 0
+abbrev pub given_or : {A : Type 0} → A → Result A Reason → A
+given_or nothing (Ok given) = given
+given_or nothing (Err reason) = nothing
 
 -- "An order begins with its kind, 0 to 5"
 abbrev pub kind_of : Order → ℕ

@@ -2,6 +2,7 @@
 -- Document 01 counts bids and pools from 1. Here an index i stands for bid i + 1, and an index a, b or p for pool a + 1, b + 1 or p + 1.
 use Rattle.std.specs.Prelude.{ℕ, suc, ◌+◌, ◌*◌, Bool, not, List, get_or, ℤ, pos, nat_abs}
 use Rattle.std.specs.Int.Signed.{lt_z}
+use Rattle.definitions.specs.declared.LentBook.{LentBook}
 use Rattle.definitions.specs.Limits.{bid_numbers, price_place, quantity_place}
 use Rattle.definitions.specs.Arithmetic.{eq_z}
 
@@ -15,6 +16,10 @@ pub record Book : Type 0 where
 -- a book of these
 abbrev pub book : (n m : ℕ) (bids capacities : List ℤ) → Book
 book n m bids capacities = record { n = n; m = m; bids = bids; capacities = capacities }
+
+-- the book whose tables are lent
+abbrev pub book_of : LentBook → Book
+book_of lent = book lent.n lent.m lent.bids.now lent.capacities.now
 
 -- "A bid is three signed 32-bit numbers: pool 1 to m"
 abbrev pub pool : Book → ℕ → ℤ

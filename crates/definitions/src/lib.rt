@@ -1,6 +1,14 @@
-// The types that every part of the unit shares: its limits, the machine's orders, and the answers of its calls.
+// The types that every part of the unit shares: its limits, counts and tables, the machine's orders, and why a call refuses its input.
 // What each case means is defined in specs/, in the words and numbers of the documents.
 #![tactic(auto)]
+
+ghost use Rattle.std.specs.Prelude.{◌≡◌, ◌+◌, ◌*◌, ◌<◌, ◌≤◌};
+ghost use Rattle.definitions.specs.Limits.{bid_limit, pool_limit, bid_numbers};
+ghost use Rattle.definitions.specs.Answers.{stated, number_of, place_of, parts_of};
+ghost use Rattle.definitions.specs.Sheet.{first_result, result_count};
+
+use std::error::Error;
+use std::fmt;
 
 // The limits of the unit, together.
 #[derive(Clone, Copy)]
@@ -47,10 +55,9 @@ pub enum Order {
     Equal { d: usize, a: usize, b: usize },
 }
 
-// What a call says of its input: accepted, or why it is refused, with the place where there is one.
-#[derive(Clone, Copy)]
-pub enum Verdict {
-    Accepted,
+// Why a call refuses its input, with the place where there is one. A call answers with a `Result`, whose error is the reason.
+#[derive(Clone, Copy, Debug, PartialEq, Eq)]
+pub enum Reason {
     BidCount,
     PoolCount,
     Length,
@@ -69,6 +76,63 @@ pub enum Verdict {
     Holder,
 }
 
+impl Reason {
+    // The documents' number of the refusal.
+    pub fn number(self) -> u32
+        ensures { result ≡ number_of (stated self) }
+    {
+        match self {
+            Reason::BidCount => 1,
+            Reason::PoolCount => 2,
+            Reason::Length => 3,
+            Reason::Pool(_) => 4,
+            Reason::Price(_) => 5,
+            Reason::Quantity(_) => 6,
+            Reason::Capacity(_) => 7,
+            Reason::Diagonal(_) => 8,
+            Reason::CutShort(_) => 9,
+            Reason::Kind(_) => 10,
+            Reason::Form(_) => 11,
+            Reason::Operand(_) => 12,
+            Reason::Position => 13,
+            Reason::Room => 14,
+            Reason::Cell(_) => 15,
+            Reason::Holder => 16,
+        }
+    }
+
+    // Its place, 0 where there is none.
+    pub fn place(self) -> usize
+        ensures { result ≡ place_of (stated self) }
+    {
+        match self {
+            Reason::Pool(at)
+            | Reason::Price(at)
+            | Reason::Quantity(at)
+            | Reason::Capacity(at)
+            | Reason::Diagonal(at)
+            | Reason::CutShort(at)
+            | Reason::Kind(at)
+            | Reason::Form(at)
+            | Reason::Operand(at)
+            | Reason::Cell(at) => at,
+            _ => 0,
+        }
+    }
+}
+
+// As the programs print it: `refused`, the number and the place.
+impl fmt::Display for Reason {
+    fn fmt<W: fmt::Write>(&self, f: &mut fmt::Formatter<W>) -> fmt::Result {
+        write!(f, "refused {} {}", self.number(), self.place())
+    }
+}
+
+impl Error for Reason {}
+
+// What a call that only judges or writes answers: nothing is refused, or the reason.
+pub type Verdict = Result<(), Reason>;
+
 // An order by its numbers: its kind, its target, its constant, and the two cells that it reads; 0 where it has none.
 #[derive(Clone, Copy)]
 pub struct Parts {
@@ -77,4 +141,105 @@ pub struct Parts {
     pub k: u32,
     pub a: usize,
     pub b: usize,
+}
+
+// The numbers of an order: "An order begins with its kind, 0 to 5".
+impl From<Order> for Parts {
+    ghost from_gives = { λ order parts. parts ≡ parts_of order };
+
+    fn from(order: Order) -> Parts {
+        match order {
+            Order::Constant { d, k } => Parts {
+                kind: 0,
+                d,
+                k,
+                a: 0,
+                b: 0,
+            },
+            Order::Sum { d, a, b } => Parts {
+                kind: 1,
+                d,
+                k: 0,
+                a,
+                b,
+            },
+            Order::Difference { d, a, b } => Parts {
+                kind: 2,
+                d,
+                k: 0,
+                a,
+                b,
+            },
+            Order::Product { d, a, b } => Parts {
+                kind: 3,
+                d,
+                k: 0,
+                a,
+                b,
+            },
+            Order::Less { d, a, b } => Parts {
+                kind: 4,
+                d,
+                k: 0,
+                a,
+                b,
+            },
+            Order::Equal { d, a, b } => Parts {
+                kind: 5,
+                d,
+                k: 0,
+                a,
+                b,
+            },
+        }
+    }
+}
+
+// A book as its tables are lent: n, m, three numbers for each bid, and the capacities by rows.
+#[derive(Clone, Copy)]
+pub struct LentBook<'a> {
+    pub n: usize,
+    pub m: usize,
+    pub bids: &'a [i32],
+    pub capacities: &'a [i32],
+}
+
+// Counts of bids and pools that are not refused.
+#[derive(Clone, Copy)]
+pub struct Counts {
+    pub n: usize,
+    pub m: usize,
+    ghost bids_fit: { n ≤ bid_limit },
+    ghost some_pools: { 1 ≤ m },
+    ghost pools_fit: { m ≤ pool_limit },
+}
+
+impl Counts {
+    // How many numbers the bid table has.
+    pub fn bid_numbers(self) -> usize
+        ensures { result ≡ bid_numbers * self.n }
+    {
+        Limits::BID_NUMBERS * self.n
+    }
+
+    // How many lines there are, a pool's line to itself included.
+    pub fn lines(self) -> usize
+        ensures { result ≡ self.m * self.m }
+    {
+        self.m * self.m
+    }
+
+    // The first result cell: behind the bids and the capacities.
+    pub fn first_result(self) -> usize
+        ensures { result ≡ first_result self.n self.m }
+    {
+        self.bid_numbers() + self.lines()
+    }
+
+    // How many results there are.
+    pub fn results(self) -> usize
+        ensures { result ≡ result_count self.n self.m }
+    {
+        self.n + self.lines() + Limits::POOL_RESULTS * self.m
+    }
 }

@@ -1,69 +1,58 @@
 // Who is turned away: judges counts, a number of results, a bid alone, a whole book, and the cells of a sheet.
 #![tactic(auto)]
 
-ghost use Rattle.std.specs.Prelude.{◌≡◌, ◌&&◌, [], ◌*◌, ◌≤◌, eqb, length};
-ghost use Rattle.definitions.specs.Limits.{bid_limit, pool_limit, cell_count, bid_numbers};
+ghost use Rattle.std.specs.Prelude.{◌≡◌, ◌&&◌, [], ◌*◌, ◌≤◌, eqb, length, IfOk};
+ghost use Rattle.definitions.specs.Limits.{pool_limit, cell_count, bid_numbers};
 ghost use Rattle.definitions.specs.Arithmetic.{within};
-ghost use Rattle.definitions.specs.Answers.{refusal_of, numbered, first};
-ghost use Rattle.definitions.specs.Book.{book};
+ghost use Rattle.definitions.specs.Answers.{refusal_of, numbered};
+ghost use Rattle.definitions.specs.Book.{book, book_of};
 ghost use Rattle.definitions.specs.Calls.{pools_refusal, counts_refusal, length_refusal, bid_fault, bid_refusal, bids_refusal, capacity_fault, capacities_refusal, seal_refusal, cells_refusal, results_refusal};
 
-use answers::is_accepted;
-use definitions::{Limits, Verdict};
+use definitions::{Counts, LentBook, Limits, Reason, Verdict};
 
 // The pool count: 2.
 fn judge_pools(m: usize) -> Verdict
-    ensures { refusal_of result ≡ pools_refusal m }
+    ensures refusal { refusal_of result ≡ pools_refusal m }
+    ensures within { IfOk result (λ _. (1 ≤ m) × (m ≤ pool_limit)) }
 {
-    if m == 0 {
-        return Verdict::PoolCount;
+    if m == 0 || Limits::POOLS < m {
+        return Err(Reason::PoolCount);
     }
-    if Limits::POOLS < m {
-        return Verdict::PoolCount;
-    }
-    Verdict::Accepted
+    Ok(())
 }
 
 // Both counts: 1, then 2.
-pub fn judge_counts(n: usize, m: usize) -> Verdict
-    ensures { refusal_of result ≡ counts_refusal n m }
+pub fn judge_counts(n: usize, m: usize) -> Result<Counts, Reason>
+    ensures refusal { refusal_of result ≡ counts_refusal n m }
+    ensures counts { IfOk result (λ counts. (counts.n ≡ n) × (counts.m ≡ m)) }
 {
     if Limits::BIDS < n {
-        return Verdict::BidCount;
+        return Err(Reason::BidCount);
     }
-    judge_pools(m)
+    judge_pools(m)?;
+    Ok(Counts { n, m })
 }
 
 // Both counts and how many results there are: 1, 2, 3.
-pub fn judge_results(n: usize, m: usize, results: usize) -> Verdict
-    ensures { refusal_of result ≡ results_refusal n m results }
+pub fn judge_results(n: usize, m: usize, results: usize) -> Result<Counts, Reason>
+    ensures refusal { refusal_of result ≡ results_refusal n m results }
+    ensures counts { IfOk result (λ counts. (counts.n ≡ n) × (counts.m ≡ m)) }
 {
-    let by_counts = judge_counts(n, m);
-    if !is_accepted(by_counts) {
-        return by_counts;
+    let counts = judge_counts(n, m)?;
+    if results != counts.results() {
+        return Err(Reason::Length);
     }
-    if results != n + m * m + Limits::POOL_RESULTS * m {
-        return Verdict::Length;
-    }
-    Verdict::Accepted
+    Ok(counts)
 }
 
 // The lengths of both tables and of the sheet: 3.
-fn judge_lengths(n: usize, m: usize, bids: usize, capacities: usize, cells: usize) -> Verdict
-    requires n_le_bid_limit { n ≤ bid_limit }
-    requires m_le_pool_limit { m ≤ pool_limit }
-    ensures { refusal_of result ≡ length_refusal ((eqb bids (bid_numbers * n) && eqb capacities (m * m)) && eqb cells cell_count) }
+fn judge_lengths(counts: Counts, bids: usize, capacities: usize, cells: usize) -> Verdict
+    ensures { refusal_of result ≡ length_refusal ((eqb bids (bid_numbers * counts.n) && eqb capacities (counts.m * counts.m)) && eqb cells cell_count) }
 {
-    if bids != Limits::BID_NUMBERS * n {
-        return Verdict::Length;
+    if bids != counts.bid_numbers() || capacities != counts.lines() || cells != Limits::CELLS {
+        return Err(Reason::Length);
     }
-    if capacities != m * m {
-        return Verdict::Length;
-    }
-    if cells != Limits::CELLS {
-        return Verdict::Length;
-    }
-    Verdict::Accepted
+    Ok(())
 }
 
 fn is_within(low: i32, high: i32, v: i32) -> bool
@@ -73,134 +62,101 @@ fn is_within(low: i32, high: i32, v: i32) -> bool
 }
 
 // One bid: 4, 5, 6.
-fn bid_verdict(m: usize, pool: i32, price: i32, quantity: i32, place: usize) -> Verdict
+fn judge_numbers(m: usize, pool: i32, price: i32, quantity: i32, place: usize) -> Verdict
     requires { m ≤ pool_limit }
     ensures { refusal_of result ≡ numbered (bid_fault m pool price quantity) place }
 {
     if !is_within(1, m as i32, pool) {
-        return Verdict::Pool(place);
+        return Err(Reason::Pool(place));
     }
     if !is_within(-Limits::PRICE, Limits::PRICE, price) {
-        return Verdict::Price(place);
+        return Err(Reason::Price(place));
     }
     if !is_within(-Limits::QUANTITY, Limits::QUANTITY, quantity) {
-        return Verdict::Quantity(place);
+        return Err(Reason::Quantity(place));
     }
-    Verdict::Accepted
+    Ok(())
 }
 
 // A bid judged alone: 2, then the bid's own refusals, with place 0.
 pub fn judge_bid(m: usize, pool: i32, price: i32, quantity: i32) -> Verdict
     ensures { refusal_of result ≡ bid_refusal m pool price quantity }
 {
-    let pools = judge_pools(m);
-    if !is_accepted(pools) {
-        return pools;
-    }
-    bid_verdict(m, pool, price, quantity, 0)
+    judge_pools(m)?;
+    judge_numbers(m, pool, price, quantity, 0)
 }
 
 // The bids one by one, each by its number.
-fn judge_bids(n: usize, m: usize, bids: &[i32]) -> Verdict
-    requires m_le_pool_limit { m ≤ pool_limit }
-    requires bids_len { length bids.now ≡ bid_numbers * n }
-    ensures { refusal_of result ≡ bids_refusal (book n m bids.now []) }
+fn judge_bids(counts: Counts, bids: &[i32]) -> Verdict
+    requires { length bids.now ≡ bid_numbers * counts.n }
+    ensures { refusal_of result ≡ bids_refusal (book counts.n counts.m bids.now []) }
 {
-    let mut i = 0;
-    while i < n {
+    for i in 0..counts.n {
         let at = Limits::BID_NUMBERS * i;
         let pool = bids[at];
         let price = bids[at + Limits::PRICE_PLACE];
         let quantity = bids[at + Limits::QUANTITY_PLACE];
-        let verdict = bid_verdict(m, pool, price, quantity, i + 1);
-        if !is_accepted(verdict) {
-            return verdict;
-        }
-        i += 1;
+        judge_numbers(counts.m, pool, price, quantity, i + 1)?;
     }
-    Verdict::Accepted
+    Ok(())
 }
 
 // One entry of the capacity table: 8 on the diagonal, 7 off it.
-fn capacity_verdict(diagonal: bool, capacity: i32, place: usize) -> Verdict
+fn judge_capacity(diagonal: bool, capacity: i32, place: usize) -> Verdict
     ensures { refusal_of result ≡ numbered (capacity_fault diagonal capacity) place }
 {
     if diagonal {
         if capacity == 0 {
-            return Verdict::Accepted;
+            return Ok(());
         }
-        return Verdict::Diagonal(place);
+        return Err(Reason::Diagonal(place));
     }
     if !is_within(0, Limits::CAPACITY, capacity) {
-        return Verdict::Capacity(place);
+        return Err(Reason::Capacity(place));
     }
-    Verdict::Accepted
+    Ok(())
 }
 
 // The capacities by rows: the first bad one ends the search.
-fn judge_capacities(m: usize, capacities: &[i32]) -> Verdict
-    requires m_le_pool_limit { m ≤ pool_limit }
-    requires capacities_len { length capacities.now ≡ m * m }
-    ensures { refusal_of result ≡ capacities_refusal (book 0 m [] capacities.now) }
+fn judge_capacities(counts: Counts, capacities: &[i32]) -> Verdict
+    requires { length capacities.now ≡ counts.m * counts.m }
+    ensures { refusal_of result ≡ capacities_refusal (book 0 counts.m [] capacities.now) }
 {
-    let mut verdict = Verdict::Accepted;
-    let mut row = 0;
-    let mut a = 0;
-    'rows: while a < m {
-        let mut b = 0;
-        while b < m {
-            let at = row + b;
+    let m = counts.m;
+    let mut verdict = Ok(());
+    'rows: for a in 0..m {
+        for b in 0..m {
+            let at = a * m + b;
             let capacity = capacities[at];
-            let found = capacity_verdict(a == b, capacity, at + 1);
-            if !is_accepted(found) {
-                verdict = found;
+            verdict = judge_capacity(a == b, capacity, at + 1);
+            if verdict.is_err() {
                 break 'rows;
             }
-            b += 1;
         }
-        row += m;
-        a += 1;
-    }
-    verdict
-}
-
-// The first of two verdicts that refuses.
-fn first_of(verdict: Verdict, next: Verdict) -> Verdict
-    ensures { refusal_of result ≡ first (refusal_of verdict) (refusal_of next) }
-{
-    if is_accepted(verdict) {
-        return next;
     }
     verdict
 }
 
 // A book, and the length of the sheet that it is to be sealed in: counts, lengths, bids, capacities.
-pub fn judge_book(n: usize, m: usize, bids: &[i32], capacities: &[i32], cells: usize) -> Verdict
-    ensures { refusal_of result ≡ seal_refusal (book n m bids.now capacities.now) cells }
+pub fn judge_book(book: &LentBook, cells: usize) -> Result<Counts, Reason>
+    ensures refusal { refusal_of result ≡ seal_refusal (book_of book.now) cells }
+    ensures counts { IfOk result (λ counts. (counts.n ≡ book.now.n) × (counts.m ≡ book.now.m)) }
 {
-    let by_counts = judge_counts(n, m);
-    if !is_accepted(by_counts) {
-        return by_counts;
-    }
-    let by_lengths = judge_lengths(n, m, bids.len(), capacities.len(), cells);
-    if !is_accepted(by_lengths) {
-        return by_lengths;
-    }
-    let by_bids = judge_bids(n, m, bids);
-    let by_capacities = judge_capacities(m, capacities);
-    first_of(by_bids, by_capacities)
+    let counts = judge_counts(book.n, book.m)?;
+    judge_lengths(counts, book.bids.len(), book.capacities.len(), cells)?;
+    judge_bids(counts, book.bids)?;
+    judge_capacities(counts, book.capacities)?;
+    Ok(counts)
 }
 
 // The first cell that is no residue: 15.
 pub fn judge_cells(sheet: &[u32]) -> Verdict
     ensures { refusal_of result ≡ cells_refusal sheet.now }
 {
-    let mut c = 0;
-    while c < sheet.len() {
-        if Limits::MODULUS <= sheet[c] {
-            return Verdict::Cell(c);
+    for (c, cell) in sheet.iter().enumerate() {
+        if Limits::MODULUS <= *cell {
+            return Err(Reason::Cell(c));
         }
-        c += 1;
     }
-    Verdict::Accepted
+    Ok(())
 }

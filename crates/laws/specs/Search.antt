@@ -1,25 +1,24 @@
--- Refusals as a function's code meets them: after `if !is_accepted(..)`, and in a loop that leaves at the first one.
-use Rattle.std.specs.Prelude.{ℕ, suc, ◌+◌, ◌-◌, ◌<◌, ◌≤◌, ◌≡◌, Bool, true, false, not}
+-- Refusals as a function's code meets them: after a judge's `?`, and in a loop that leaves at the first one.
+use Rattle.std.specs.Prelude.{ℕ, suc, ◌+◌, ◌-◌, ◌<◌, ◌≤◌, ◌≡◌, Bool, true, false}
 use Rattle.std.proofs.Common.{sym, ap, ◌∙◌, arith}
-use Rattle.std.proofs.lemmas.Bool.{not-true, not-false}
-use Rattle.definitions.specs.Answers.{Refusal, none, first, is_none}
+use Rattle.definitions.specs.declared.Reason.{Reason}
+use Rattle.definitions.specs.Answers.{Refusal, none, first, is_none, stated}
 use Rattle.definitions.specs.Calls.{first_from}
-use Rattle.laws.specs.Refusal.{first_from_end, first_from_next, first_from_passed, first_refused, is_none_lem}
+use Rattle.laws.specs.Refusal.{first_from_end, first_from_next, first_from_passed, first_refused}
+use Rattle.laws.specs.Verdicts.{stated_refuses}
 
--- ---- `if !is_accepted(..)`: the judge's verdict states `stated`, and t is what `is_accepted` says of it
+-- ---- After a judge's `?`: its reason states what was asked, or it has none, and what was asked is no refusal
 
-module _ {stated asked : Refusal} {t : Bool} (right : stated ≡ asked) (tested : t ≡ is_none stated) where
-  pub turned_away : not t ≡ true → is_none asked ≡ false
-  turned_away e = ap is_none (sym right) ∙ sym tested ∙ not-true _ e
+module _ {asked : Refusal} (reason : Reason) (right : stated reason ≡ asked) where
+  pub turned_away : is_none asked ≡ false
+  turned_away = ap is_none (sym right) ∙ stated_refuses reason
 
-  pub let_through : not t ≡ false → asked ≡ none
-  let_through e = is_none_lem _ (ap is_none (sym right) ∙ sym tested ∙ not-false _ e)
+  -- it is the first refusal, whatever is asked next
+  pub first_to_refuse : (next : Refusal) → stated reason ≡ first asked next
+  first_to_refuse next = right ∙ sym (first_refused _ next turned_away)
 
-  pub first_to_refuse : (next : Refusal) → not t ≡ true → stated ≡ first asked next
-  first_to_refuse next e = right ∙ sym (first_refused _ next (turned_away e))
-
-pub after_none : {asked : Refusal} (next : Refusal) → asked ≡ none → next ≡ first asked next
-after_none next e = sym (ap (λ (r : Refusal). first r next) e)
+pub after_none : {asked : Refusal} (next : Refusal) → none ≡ asked → next ≡ first asked next
+after_none next e = ap (λ (r : Refusal). first r next) e
 
 -- ---- A loop that searches f 0, .., f (n - 1): at index i its answer is that of the n - i which are left
 

@@ -1,60 +1,82 @@
--- `judge_book` meets its contract: four judges in turn; what the first two let through is what the others require.
-use Prim.Native.Nat.{ℕ}
-use mathlib.Core.Path.{◌≡◌, refl, ap, ap₂, ◌∙◌}
-use mathlib.Core.Bool.{◌&&◌, not}
-use mathlib.Core.List.{List, []}
-use lib.Dec.{eqb}
-use lib.IntN.{ℤ}
-use Rattle.definitions.specs.Limits.{cell_count}
-use Rattle.definitions.specs.Answers.{Refusal, none, first}
-use Rattle.definitions.specs.Book.{Book, book}
+-- `judge_book` meets its contract: four judges in turn, each asked what those before it let through.
+use Rattle.std.proofs.Common.{ℕ, ◌≡◌, refl, sym, ap, ap₂, ◌∙◌, ◌&&◌, eqb, List, [], ℤ, length, ◌*◌}
+use Rattle.std.proofs.lemmas.Result.{err_from_is_err_and}
+use Rattle.definitions.specs.declared.Counts.{Counts}
+use Rattle.definitions.specs.declared.Reason.{Reason}
+use Rattle.definitions.specs.Limits.{cell_count, bid_numbers}
+use Rattle.definitions.specs.Answers.{Refusal, none, first, stated}
+use Rattle.definitions.specs.Book.{Book, book, book_of}
 use Rattle.definitions.specs.Calls.{counts_refusal, length_refusal, tables_right, bids_refusal, row_refusal, capacities_refusal, seal_refusal}
-use Rattle.laws.specs.Search.{first_to_refuse, let_through, after_none}
+use Rattle.laws.specs.Search.{first_to_refuse, after_none}
 use Rattle.judging.proofs.judge_book.Goals as goal
 
--- the bids are judged whatever the capacities, and the capacities whatever the bids
-bids_alone : (n m : ℕ) (bids capacities : List ℤ) → bids_refusal (book n m bids []) ≡ bids_refusal (book n m bids capacities)
-unfolding bids_refusal
-bids_alone n m bids capacities = refl
+-- what each judge is asked, by counts of the book's own numbers
+module _ (n m : ℕ) (bids capacities : List ℤ) (cells : ℕ) (N M : ℕ) (same : (N ≡ n) × (M ≡ m)) where
+  abbrev lengths : Refusal
+  lengths = length_refusal ((eqb (length bids) (bid_numbers * N) && eqb (length capacities) (M * M)) && eqb cells cell_count)
 
-capacities_alone : (n m : ℕ) (bids capacities : List ℤ) → capacities_refusal (book 0 m [] capacities) ≡ capacities_refusal (book n m bids capacities)
-unfolding capacities_refusal row_refusal
-capacities_alone n m bids capacities = refl
+  asked : Refusal
+  asked = first (counts_refusal n m) (first lengths (first (bids_refusal (book N M bids [])) (capacities_refusal (book 0 M [] capacities))))
 
-abbrev lengths_of : (B : Book) → ℕ → Refusal
-lengths_of B cells = length_refusal (tables_right B && eqb cells cell_count)
+  asked_is : asked ≡ seal_refusal (book n m bids capacities) cells
+  unfolding asked seal_refusal bids_refusal capacities_refusal row_refusal
+  asked_is = rw (same.0, same.1) refl
 
-abbrev after_lengths : Book → Refusal
-after_lengths B = first (bids_refusal B) (capacities_refusal B)
+  module _ (counts : none ≡ counts_refusal n m) where
+    by_lengths : (r : Reason) → stated r ≡ lengths → stated r ≡ asked
+    unfolding asked
+    by_lengths r e = first_to_refuse r e _ ∙ after_none _ counts
 
--- a book of accepted counts, and of accepted lengths too
-counts_passed : (B : Book) (cells : ℕ) → counts_refusal B.n B.m ≡ none → first (lengths_of B cells) (after_lengths B) ≡ seal_refusal B cells
+    module _ (fit : none ≡ lengths) where
+      by_bids : (r : Reason) → stated r ≡ bids_refusal (book N M bids []) → stated r ≡ asked
+      unfolding asked
+      by_bids r e = first_to_refuse r e _ ∙ after_none _ fit ∙ after_none _ counts
+
+      by_capacities : none ≡ bids_refusal (book N M bids []) → (r : Refusal) → r ≡ capacities_refusal (book 0 M [] capacities) → r ≡ asked
+      unfolding asked
+      by_capacities sound r e = e ∙ after_none _ sound ∙ after_none _ fit ∙ after_none _ counts
+
+pub returns-in_err-counts-clause-refusal : goal.returns-in_err-counts-clause-refusal
 unfolding seal_refusal
-counts_passed B cells e = after_none _ e
+returns-in_err-counts-clause-refusal c =
+    let p = err_from_is_err_and c.from_residual.result c.from_residual.ensures.1 in
+    rw (p.1, p.2) (first_to_refuse c.in_err-counts.field-0.0 c.in_err-counts.ensures.refusal _)
 
-lengths_passed : (B : Book) (cells : ℕ) → counts_refusal B.n B.m ≡ none → lengths_of B cells ≡ none → after_lengths B ≡ seal_refusal B cells
-lengths_passed B cells e f = after_none (after_lengths B) f ∙ counts_passed B cells e
+pub returns-in_err-judge_lengths-clause-refusal : goal.returns-in_err-judge_lengths-clause-refusal
+returns-in_err-judge_lengths-clause-refusal c =
+    let r = c.from_residual-in_err-judge_lengths in
+    let p = err_from_is_err_and r.result r.ensures.1 in
+    let B = c.args.book.now in
+    let k = c.in_ok-counts in
+    let same = k.ensures.counts in
+    rw (p.1, p.2) (by_lengths B.n B.m B.bids.now B.capacities.now c.args.cells k.counts.n k.counts.m same k.ensures.refusal c.in_err-judge_lengths.field-0.0 c.in_err-judge_lengths.ensures
+      ∙ asked_is B.n B.m B.bids.now B.capacities.now c.args.cells k.counts.n k.counts.m same)
 
-pub returns-then-not-is_accepted : goal.returns-then-not-is_accepted
-unfolding seal_refusal
-returns-then-not-is_accepted c =
-    let B = book c.args.n c.args.m c.args.bids.now c.args.capacities.now in
-    first_to_refuse c.judge_counts-by_counts.ensures c.is_accepted.ensures (first (lengths_of B c.args.cells) (after_lengths B)) (ap not c.if-not-is_accepted.true)
+pub returns-in_err-judge_bids-clause-refusal : goal.returns-in_err-judge_bids-clause-refusal
+returns-in_err-judge_bids-clause-refusal c =
+    let r = c.from_residual-in_err-judge_bids in
+    let p = err_from_is_err_and r.result r.ensures.1 in
+    let B = c.args.book.now in
+    let k = c.in_ok-counts in
+    let same = k.ensures.counts in
+    rw (p.1, p.2) (by_bids B.n B.m B.bids.now B.capacities.now c.args.cells k.counts.n k.counts.m same k.ensures.refusal c.in_ok-judge_lengths.ensures c.in_err-judge_bids.field-0.0 c.in_err-judge_bids.ensures
+      ∙ asked_is B.n B.m B.bids.now B.capacities.now c.args.cells k.counts.n k.counts.m same)
 
-pub returns-then-not-is_accepted-2 : goal.returns-then-not-is_accepted-2
-returns-then-not-is_accepted-2 c =
-    let B = book c.args.n c.args.m c.args.bids.now c.args.capacities.now in
-    let counts = let_through c.judge_counts-by_counts.ensures c.is_accepted.ensures (ap not c.if-not-is_accepted.false) in
-    first_to_refuse {asked = lengths_of B c.args.cells} c.judge_lengths-by_lengths.ensures c.is_accepted-2.ensures (after_lengths B) (ap not c.if-not-is_accepted-2.true)
-    ∙ counts_passed B c.args.cells counts
+pub returns-in_err-judge_capacities-clause-refusal :
+    goal.returns-in_err-judge_capacities-clause-refusal
+returns-in_err-judge_capacities-clause-refusal c =
+    let r = c.from_residual-in_err-judge_capacities in
+    let p = err_from_is_err_and r.result r.ensures.1 in
+    let B = c.args.book.now in
+    let k = c.in_ok-counts in
+    let same = k.ensures.counts in
+    rw (p.1, p.2) (by_capacities B.n B.m B.bids.now B.capacities.now c.args.cells k.counts.n k.counts.m same k.ensures.refusal c.in_ok-judge_lengths.ensures c.in_ok-judge_bids.ensures (stated c.in_err-judge_capacities.field-0.0) c.in_err-judge_capacities.ensures
+      ∙ asked_is B.n B.m B.bids.now B.capacities.now c.args.cells k.counts.n k.counts.m same)
 
-pub returns : goal.returns
-returns c =
-    let a = c.args in
-    let B = book a.n a.m a.bids.now a.capacities.now in
-    let counts = let_through c.judge_counts-by_counts.ensures c.is_accepted.ensures (ap not c.if-not-is_accepted.false) in
-    let lengths = let_through {asked = lengths_of B a.cells} c.judge_lengths-by_lengths.ensures c.is_accepted-2.ensures (ap not c.if-not-is_accepted-2.false) in
-    c.first_of.ensures
-    ∙ ap₂ first (c.judge_bids-by_bids.ensures ∙ bids_alone a.n a.m a.bids.now a.capacities.now)
-    (c.judge_capacities-by_capacities.ensures ∙ capacities_alone a.n a.m a.bids.now a.capacities.now)
-    ∙ lengths_passed B a.cells counts lengths
+pub returns-clause-refusal : goal.returns-clause-refusal
+returns-clause-refusal c =
+    let B = c.args.book.now in
+    let k = c.in_ok-counts in
+    let same = k.ensures.counts in
+    by_capacities B.n B.m B.bids.now B.capacities.now c.args.cells k.counts.n k.counts.m same k.ensures.refusal c.in_ok-judge_lengths.ensures c.in_ok-judge_bids.ensures none c.in_ok-judge_capacities.ensures
+    ∙ asked_is B.n B.m B.bids.now B.capacities.now c.args.cells k.counts.n k.counts.m same

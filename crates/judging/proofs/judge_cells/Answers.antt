@@ -1,12 +1,5 @@
 -- `judge_cells` meets its contract: each turn judges one cell.
-use Prim.Native.Nat.{ℕ, ◌<◌, ◌≤◌}
-use mathlib.Core.Path.{◌≡◌, sym, ap, ◌∙◌}
-use mathlib.Core.Bool.{cond}
-use mathlib.Core.List.{List}
-use native.Mathlib.Omega.{arith}
-use lib.Dec.{ltb}
-use lib.ListN.{length}
-use borrow.Author.Tests.{lt-ltb, le-ltb}
+use Rattle.std.proofs.Common.{ℕ, ◌<◌, ◌≤◌, ◌≡◌, sym, ap, ◌∙◌, cond, List, ltb, length, lt-ltb, le-ltb}
 use Rattle.definitions.specs.Limits.{modulus}
 use Rattle.definitions.specs.Answers.{Refusal, none, refuse, is_none}
 use Rattle.definitions.specs.Machine.{cell}
@@ -26,22 +19,22 @@ cell_passed sheet c h = simp (lt-ltb _ _ h)
 
 pub loop-c-init : goal.loop-c-init
 unfolding cells_refusal
-loop-c-init c = let sheet = c.args.sheet.now in (omega arith, search_begins (length sheet) (cell_at sheet))
+loop-c-init c = let sheet = c.args.sheet.now in search_begins (length sheet) (cell_at sheet)
 
-pub returns-then-sheet-c-ge-MODULUS : goal.returns-then-sheet-c-ge-MODULUS
-returns-then-sheet-c-ge-MODULUS c =
+pub returns-then-cell-ge-MODULUS : goal.returns-then-cell-ge-MODULUS
+returns-then-cell-ge-MODULUS c =
     let l = c.loop-c in
     let sheet = c.args.sheet.now in
-    let e = cell_refused sheet l.c c.if-sheet-c-ge-MODULUS.true in
-    sym (l.invariant.1 ∙ search_stops (length sheet) (cell_at sheet) l.c c.loop-c-test.true (ap is_none e) ∙ e)
+    let e = cell_refused sheet l.c c.if-cell-ge-MODULUS.true in
+    sym (l.invariant ∙ search_stops (length sheet) (cell_at sheet) l.c c.loop-c-test.true (ap is_none e) ∙ e)
 
 pub loop-c-preserved : goal.loop-c-preserved
 loop-c-preserved c =
     let l = c.loop-c in
     let sheet = c.args.sheet.now in
-    (omega arith, l.invariant.1 ∙ search_passes (length sheet) (cell_at sheet) l.c c.loop-c-test.true (cell_passed sheet l.c c.if-sheet-c-ge-MODULUS.false))
+    l.invariant ∙ search_passes (length sheet) (cell_at sheet) l.c c.loop-c-test.true (cell_passed sheet l.c c.if-cell-ge-MODULUS.false)
 
 pub returns : goal.returns
 returns c =
     let sheet = c.args.sheet.now in
-    sym (c.loop-c.invariant.1 ∙ search_ends (length sheet) (cell_at sheet) c.loop-c.c c.loop-c-test.false)
+    sym (c.loop-c.invariant ∙ search_ends (length sheet) (cell_at sheet) c.loop-c.c c.loop-c-test.false)
