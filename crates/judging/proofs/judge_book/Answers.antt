@@ -50,7 +50,7 @@ returns-in_err-judge_lengths-clause-refusal c =
     let k = c.in_ok-counts in
     let same = k.ensures.counts in
     rw (p.1, p.2) (by_lengths B.n B.m B.bids.now B.capacities.now c.args.cells k.counts.n k.counts.m same k.ensures.refusal c.in_err-judge_lengths.field-0.0 c.in_err-judge_lengths.ensures
-      ∙ asked_is B.n B.m B.bids.now B.capacities.now c.args.cells k.counts.n k.counts.m same)
+    ∙ asked_is B.n B.m B.bids.now B.capacities.now c.args.cells k.counts.n k.counts.m same)
 
 pub returns-in_err-judge_bids-clause-refusal : goal.returns-in_err-judge_bids-clause-refusal
 returns-in_err-judge_bids-clause-refusal c =
@@ -60,7 +60,7 @@ returns-in_err-judge_bids-clause-refusal c =
     let k = c.in_ok-counts in
     let same = k.ensures.counts in
     rw (p.1, p.2) (by_bids B.n B.m B.bids.now B.capacities.now c.args.cells k.counts.n k.counts.m same k.ensures.refusal c.in_ok-judge_lengths.ensures c.in_err-judge_bids.field-0.0 c.in_err-judge_bids.ensures
-      ∙ asked_is B.n B.m B.bids.now B.capacities.now c.args.cells k.counts.n k.counts.m same)
+    ∙ asked_is B.n B.m B.bids.now B.capacities.now c.args.cells k.counts.n k.counts.m same)
 
 pub returns-in_err-judge_capacities-clause-refusal :
     goal.returns-in_err-judge_capacities-clause-refusal
@@ -71,7 +71,7 @@ returns-in_err-judge_capacities-clause-refusal c =
     let k = c.in_ok-counts in
     let same = k.ensures.counts in
     rw (p.1, p.2) (by_capacities B.n B.m B.bids.now B.capacities.now c.args.cells k.counts.n k.counts.m same k.ensures.refusal c.in_ok-judge_lengths.ensures c.in_ok-judge_bids.ensures (stated c.in_err-judge_capacities.field-0.0) c.in_err-judge_capacities.ensures
-      ∙ asked_is B.n B.m B.bids.now B.capacities.now c.args.cells k.counts.n k.counts.m same)
+    ∙ asked_is B.n B.m B.bids.now B.capacities.now c.args.cells k.counts.n k.counts.m same)
 
 pub returns-clause-refusal : goal.returns-clause-refusal
 returns-clause-refusal c =
