@@ -40,9 +40,9 @@ unfolding constant_at
 constant_below s at v next e = go (number_at s at) e
   where
     go : (r : Read ℕ) → below modulus 12 r ≡ found v next → v < modulus
-    go (fault k) e = absurd (let z : ◌≡◌ {A = ℕ} 0 1 = cc in omega arith)
+    go (fault k) e = cc
     go (found w n) e = in_limit (lt? w modulus) e
       where
         in_limit : {t : Bool} → Lt? w modulus t → cond t (found w n) (fault 12) ≡ found v next → v < modulus
         in_limit (less h) e = let p : w ≡ v = cc in omega arith
-        in_limit (more h) e = absurd (let z : ◌≡◌ {A = ℕ} 0 1 = cc in omega arith)
+        in_limit (more h) e = cc

@@ -1,6 +1,5 @@
 -- `read_order` meets its contract, number by number: each is refused, or is followed by the next.
 use Rattle.std.proofs.Common.{ℕ, ◌≡◌, refl, arith, eq-eqb, ne_eqb, Option, Some, None, Ok, Err}
-use Rattle.std.proofs.lemmas.Result.{err_from_is_err_and}
 use Rattle.std.specs.Prelude.{ok_or}
 use Rattle.definitions.specs.declared.Order.{Order}
 use Rattle.definitions.specs.declared.Order.TheVariants.{Constant}
@@ -43,10 +42,10 @@ behind_second c e =
 module _ (place next : ℕ) (r : Read Order) where
   not_of_kind : (o : Option Order) (reason : Reason) → Err reason ≡ ok_or o (Kind place) → kind_answer next o ≡ r → refused (stated reason) ≡ answer_at place r
   not_of_kind None reason e k = let p : reason ≡ Kind place = cc in rw (p, ← k) refl
-  not_of_kind (Some o) reason e k = absurd (let z : ◌≡◌ {A = ℕ} 0 1 = cc in omega arith)
+  not_of_kind (Some o) reason e k = cc
 
   of_that_kind : (o : Option Order) (order : Order) → Ok order ≡ ok_or o (Kind place) → kind_answer next o ≡ r → given order next ≡ answer_at place r
-  of_that_kind None order e k = absurd (let z : ◌≡◌ {A = ℕ} 0 1 = cc in omega arith)
+  of_that_kind None order e k = cc
   of_that_kind (Some o) order e k = let p : order ≡ o = cc in rw (p, ← k) refl
 
 -- ---- the returns
