@@ -103,7 +103,7 @@ impl Source<'_> {
     }
 }
 
-// The order of a kind with two cells. The kinds are document 01's numbers: an enum of kinds would list them and the orders twice.
+// The order of a kind with two cells. The kinds are document 01's numbers: an enum of kinds would list these and the orders once more.
 fn cells_order(kind: usize, d: usize, a: usize, b: usize) -> Option<Order>
     ensures { (next : ℕ) → kind_answer next result ≡ of_kind kind next (cells_orders d a b) }
 {
@@ -136,7 +136,6 @@ pub fn read_order(bytes: &[u8], at: usize) -> Result<(Order, usize), Reason>
 
 // How many of at most g groups a number has.
 fn group_count(v: usize, g: usize) -> usize
-    requires { g ≤ most_groups }
     ensures { result ≡ length (groups g v) }
 {
     if g == 0 {
@@ -168,6 +167,7 @@ fn order_size(order: Order) -> usize
 }
 
 // Writes a number's groups, of which there are at most g, at the head of a slice, and gives how many they are.
+// It shares no code with the digits of `listing` and `host`: order, count and marks of the digits differ.
 fn put_groups(out: &mut [u8], v: usize, g: usize) -> usize
     requires { length (groups g v) ≤ length out.old }
     ensures size { result ≡ length (groups g v) }

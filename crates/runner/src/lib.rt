@@ -91,6 +91,7 @@ fn run_orders(sheet: &mut [u32], bytes: &[u8]) -> Result<usize, Reason>
 }
 
 // Runs the orders of some bytes on a sheet if nothing is refused, and gives how many they are.
+// Sheet and bytes stay two parameters: only the sheet changes, and a struct of both would be taken apart at once.
 pub fn run(sheet: &mut [u32], bytes: &[u8]) -> Result<usize, Reason>
     ensures refusal { refusal_of result ≡ run_refusal sheet.old bytes.now }
     ensures count { given_or 0 result ≡ run_count sheet.old bytes.now }
