@@ -7,8 +7,7 @@ ghost use Rattle.definitions.specs.Machine.{step_of, plus, minus, times, less_th
 ghost use Rattle.machine.specs.Step.{holds_residue, constant_runs, cells_run, runnable, stepped};
 ghost use Rattle.machine.specs.Parts.{kind_result};
 
-use answers::parts_of;
-use definitions::{Limits, Order};
+use definitions::{Limits, Order, Parts};
 use residues::reading;
 
 // Orders 1, 2, 3: the sum, the difference, the product modulo p.
@@ -125,7 +124,7 @@ fn step_within(sheet: &mut [u32], order: Order)
     requires { runnable sheet.old order ≡ true }
     ensures { sheet.new ≡ step_of sheet.old order }
 {
-    let parts = parts_of(order);
+    let parts = Parts::from(order);
     let a = parts.a;
     let b = parts.b;
     let d = parts.d;
