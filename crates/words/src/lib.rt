@@ -54,10 +54,7 @@ pub fn after_slice(input: &[u8], at: usize) -> Option<usize>
         return None;
     }
     let end = at + 1 + word(input, at) as usize;
-    if count < end {
-        return None;
-    }
-    Some(end)
+    (end <= count).then_some(end)
 }
 
 // Where each of some slices in a row begins, and the position behind them; none if words are missing.
@@ -91,11 +88,7 @@ fn after_bytes(input: &[u8], at: usize) -> Option<usize>
     ensures { result ≡ after_bytes input.now at }
 {
     let end = after_slice(input, at)?;
-    if are_bytes(input, at + 1, end) {
-        Some(end)
-    } else {
-        None
-    }
+    are_bytes(input, at + 1, end).then_some(end)
 }
 
 // Whether the input is whole words, of which a position is the end.
