@@ -40,6 +40,7 @@ fn judge_view(
 
 // Makes the view of the opened results of n bids and m pools that a holder is shown: every number, but 0 for the amount of another holder's bid.
 // Or refuses and leaves `out` as lent.
+#[tactic(auto, unfolding(definitions::specs::Views::view_slice))]
 pub fn view(
     n: usize,
     m: usize,

@@ -1,10 +1,9 @@
--- `view` meets its contract: a refusal writes nothing, and each turn keeps or clears one amount.
+-- `view` meets its contract: every bid has a place in the slice lent, and each turn keeps or clears one amount.
 use Rattle.std.proofs.Common.{ℕ, ◌≤◌, ◌≡◌, ◌&&◌, refl, sym, ap, ◌∙◌, List, length, eqb, eqb-true, arith, take_all}
 use Rattle.definitions.specs.Answers.{none}
 use Rattle.definitions.specs.Calls.{results_refusal, length_refusal}
 use Rattle.definitions.specs.Views.{holder_refusal, view_refusal, view_of, view_slice}
-use Rattle.laws.specs.Refusal.{test_passed, first_left, first_right, unless_refused}
-use Rattle.laws.specs.Search.{turned_away}
+use Rattle.laws.specs.Refusal.{test_passed, first_left, first_right}
 use Rattle.laws.specs.Sizes.{results_counted}
 use Rattle.laws.specs.Tests.{and_left, and_right}
 use Rattle.views.specs.Places.{view_begins, view_keeps, view_clears}
@@ -26,12 +25,6 @@ lengths n m table holder results view e =
     let bids : length table ≡ n = eqb-true _ _ (and_left (eqb (length table) n) _ passed) in
     let as-long : view ≡ results = eqb-true _ _ (and_right (eqb (length table) n) _ passed) in
     record { as_long = as-long; bids = omega (arith, counted.count) }
-
-pub returns-in_err-judge_view-clause-shown : goal.returns-in_err-judge_view-clause-shown
-unfolding view_slice
-returns-in_err-judge_view-clause-shown c =
-    let a = c.args in
-    sym (unless_refused _ (view_of a.table.now a.holder a.results.now) a.out.now (turned_away c.in_err-judge_view.field-0.0 c.in_err-judge_view.ensures))
 
 pub copy_from_slice-requires : goal.copy_from_slice-requires
 copy_from_slice-requires c = (lengths _ _ _ _ _ _ c.in_ok-judge_view.ensures).as_long
