@@ -6,7 +6,8 @@ use Rattle.std.proofs.Math.IntN.{+ℤ_idl, +ℤ_idr}
 use Rattle.definitions.specs.Answers.{none}
 use Rattle.definitions.specs.Calls.{results_refusal, result_at}
 use Rattle.definitions.specs.Views.{is_among, view_of, view_refusal, view_slice, Distinct, OneEach, sum_over}
-use Rattle.laws.specs.Tests.{Eq?, same, diff, eq?, or_right}
+use Rattle.std.proofs.lemmas.Bool.{or_right}
+use Rattle.laws.specs.Tests.{Eq?, same, diff, eq?}
 use Rattle.views.specs.Places.{shown_bid, view_at}
 
 -- ---- the sum
