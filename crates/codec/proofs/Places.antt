@@ -1,14 +1,5 @@
--- A number's groups at an offset of some bytes, by the tests of the code.
-use Prim.Native.Nat.{ℕ, zero, suc, ◌+◌, ◌-◌, ◌/◌, ◌%◌, ◌<◌, ◌≤◌}
-use mathlib.Core.Path.{◌≡◌, refl}
-use mathlib.Core.Bool.{Bool, false, cond}
-use mathlib.Core.List.{List, [], ◌∷◌}
-use native.Mathlib.Omega.{arith}
-use native.Mathlib.Numerals.{add-one, sub-one}
-use lib.Dec.{ltb}
-use lib.ListN.{length, drop, get_or, drop_of_length-le}
-use lib.Seq.{drop-cons}
-use borrow.Author.Tests.{lt-ltb, le-ltb}
+-- A number's groups at the head of some bytes, by the tests of the code.
+use Rattle.std.proofs.Common.{ℕ, zero, suc, ◌+◌, ◌-◌, ◌/◌, ◌%◌, ◌<◌, ◌≤◌, ◌≡◌, refl, Bool, false, cond, List, [], ◌∷◌, ltb, length, arith, sub-one, lt-ltb, le-ltb}
 use Rattle.definitions.specs.Bytes.{groups, short, bad, last_group, more_groups, read_groups}
 
 -- ---- reading
@@ -18,16 +9,17 @@ unfolding read_groups
 no_groups zero first xs e = refl
 no_groups (suc g) first xs e = absurd (let x : ⊥ = omega arith in x)
 
-pub no_bytes : (g : ℕ) (first : Bool) (s : List ℕ) (at : ℕ) → (g ≡ 0 → ⊥) → length s ≤ at → short ≡ read_groups g first (drop at s)
+pub no_bytes : (g : ℕ) (first : Bool) (xs : List ℕ) → (g ≡ 0 → ⊥) → length xs ≡ 0 → short ≡ read_groups g first xs
 unfolding read_groups
-no_bytes zero first s at e h = absurd (e refl)
-no_bytes (suc g) first s at e h = rw (drop_of_length-le s h) refl
+no_bytes zero first xs e h = absurd (e refl)
+no_bytes (suc g) first [] e h = refl
+no_bytes (suc g) first (x ∷ xs) e h = absurd (let y : ⊥ = omega arith in y)
 
-pub a_byte : (g : ℕ) (first : Bool) (s : List ℕ) (at : ℕ) → (g ≡ 0 → ⊥) → at < length s
-    → read_groups g first (drop at s) ≡ cond (ltb (get_or s at 0) 128) (last_group first (get_or s at 0)) (more_groups (get_or s at 0) (read_groups (g - 1) false (drop (at + 1) s)))
+pub a_byte : (g : ℕ) (first : Bool) (x : ℕ) (xs : List ℕ) → (g ≡ 0 → ⊥)
+    → read_groups g first (x ∷ xs) ≡ cond (ltb x 128) (last_group first x) (more_groups x (read_groups (g - 1) false xs))
 unfolding read_groups
-a_byte zero first s at e h = absurd (e refl)
-a_byte (suc g) first s at e h = rw (drop-cons s at 0 h, sub-one, add-one) refl
+a_byte zero first x xs e = absurd (e refl)
+a_byte (suc g) first x xs e = rw sub-one refl
 
 -- ---- writing
 

@@ -1,30 +1,22 @@
 -- One number of an order after another: what an answer says of the number that was read, and what then follows of the order.
-use Prim.Native.Nat.{ℕ, ◌<◌}
-use mathlib.Core.Path.{◌≡◌, refl, sym, ap, ◌∙◌}
-use mathlib.Core.Bool.{Bool, true, false, cond}
-use mathlib.Core.List.{List}
-use native.Mathlib.Omega.{arith}
-use lib.Dec.{ltb}
-use Rattle.definitions.specs.declared.Verdict.{Verdict}
-use Rattle.definitions.specs.Answers.{refuse, refusal_of}
+use Rattle.std.proofs.Common.{ℕ, ◌<◌, ◌≡◌, refl, ap, Bool, true, false, cond, List, ltb, arith}
+use Rattle.definitions.specs.declared.Reason.{Reason}
+use Rattle.definitions.specs.Answers.{refuse, stated}
 use Rattle.definitions.specs.Limits.{modulus}
 use Rattle.definitions.specs.Bytes.{Read, fault, found, below, and_then, number_at, constant_at}
 use Rattle.laws.specs.Tests.{Lt?, less, more, lt?}
-use Rattle.codec.specs.declared.ReadNumber.{ReadNumber}
-use Rattle.codec.specs.declared.ReadNumber.TheVariants.{Found, Refused}
-use Rattle.codec.specs.Answer.{ReadResult, given, refused, answer_at, number_answer, limited_answer, answer_found, answer_refused}
+use Rattle.codec.specs.Answer.{ReadResult, given, refused, answer_at, limited_answer, answer_found, answer_refused}
 
--- a number refused refuses what it is part of
-pub refused_then : {A : Type 0} (place : ℕ) (r : Read ℕ) (f : ℕ → ℕ → Read A) {n : ReadNumber} {verdict : Verdict} → n ≡ Refused verdict
-    → number_answer n ≡ answer_at place r → refused (refusal_of verdict) ≡ answer_at place (and_then r f)
-refused_then place r f {n} {verdict} q e =
-    let w = answer_refused place r (refusal_of verdict) (sym (ap number_answer q) ∙ e) in
-    rw w.was (ap refused w.says)
+module _ {A : Type 0} (place : ℕ) (r : Read ℕ) (f : ℕ → ℕ → Read A) where
+  -- a number refused refuses what it is part of
+  pub refused_then : (reason : Reason) → refused (stated reason) ≡ answer_at place r → refused (stated reason) ≡ answer_at place (and_then r f)
+  refused_then reason e =
+      let w = answer_refused place r (stated reason) e in
+      rw w.was (ap refused w.says)
 
--- a number found is followed by the rest
-pub found_then : {A : Type 0} (place : ℕ) (r : Read ℕ) (f : ℕ → ℕ → Read A) {n : ReadNumber} {v next : ℕ} {x : ReadResult A} → n ≡ Found v next
-    → number_answer n ≡ answer_at place r → x ≡ answer_at place (f v next) → x ≡ answer_at place (and_then r f)
-found_then place r f {n} {v} {next} q e later = rw (answer_found place r v next (sym (ap number_answer q) ∙ e)) later
+  -- a number found is followed by the rest
+  pub found_then : {v next : ℕ} {x : ReadResult A} → given v next ≡ answer_at place r → x ≡ answer_at place (f v next) → x ≡ answer_at place (and_then r f)
+  found_then {v} {next} e later = rw (answer_found place r v next e) later
 
 -- the limit of a kind, a cell, a constant
 pub limited_below : (place limit number : ℕ) (r : Read ℕ) → limited_answer limit (refuse number place) (answer_at place r) ≡ answer_at place (below limit number r)

@@ -1,35 +1,46 @@
--- Runs of stores one after another, and an order's bytes by its numbers.
-use Prim.Native.Nat.{ℕ, ◌+◌, ◌≤◌}
-use mathlib.Core.Path.{◌≡◌, sym, ap, ◌∙◌}
-use mathlib.Core.Bool.{cond}
-use mathlib.Core.List.{List, [], ◌∷◌, ◌++◌, append-nil, append_assoc}
-use native.Mathlib.Omega.{arith}
-use borrow.Author.Tests.{eq-eqb, ne_eqb}
-use lib.Dec.{eqb}
-use lib.ListN.{length, length-append}
-use lib.Seq.{sets}
+-- What is written in the tail of some bytes, one run behind another, and an order's bytes by its numbers.
+use Rattle.std.proofs.Common.{ℕ, ◌-◌, ◌≤◌, ◌<◌, ◌≡◌, refl, sym, ap, ◌∙◌, cond, eqb, List, [], ◌∷◌, ◌++◌, append-nil, append_assoc, arith, length, drop, set, length-append, length-drop, length-take-le, drop_of_length-le, drop-drop, eq-eqb, ne_eqb}
+use Rattle.std.proofs.lemmas.Slice.{between_to_end}
+use borrow.Rule.Slice.PartMut.{put_mid, mid_of}
 use Rattle.definitions.specs.declared.Order.{Order}
 use Rattle.definitions.specs.declared.Order.TheVariants.{Constant, Sum, Difference, Product, Less, Equal}
 use Rattle.definitions.specs.declared.Parts.{Parts}
 use Rattle.definitions.specs.Answers.{parts_of}
 use Rattle.definitions.specs.Bytes.{number_bytes, numbers_bytes, order_bytes}
-use Rattle.laws.specs.Write.{sets_append}
+use Rattle.definitions.specs.Plan.{over}
+use Rattle.laws.specs.Write.{written, behind}
 
--- xs written at an offset, and ys behind them, are xs ++ ys written at that offset
-pub both : (out out₁ out₂ : List ℕ) (at next last : ℕ) (xs ys : List ℕ)
-    → next ≡ at + length xs → out₁ ≡ sets out at xs → last ≡ next + length ys → out₂ ≡ sets out₁ next ys
-    → (last ≡ at + length (xs ++ ys)) × (out₂ ≡ sets out at (xs ++ ys))
-both out out₁ out₂ at next last xs ys e₁ q₁ e₂ q₂ = (
-  omega (arith, length-append xs ys),
-  q₂ ∙ ap (λ (l : List ℕ). sets l next ys) q₁ ∙ ap (λ (k : ℕ). sets (sets out at xs) k ys) e₁ ∙ sym (sets_append out at xs ys),
-)
+-- ---- the tail of some bytes from an offset on
 
--- the first run's room, and the second's
-pub first_room : (at : ℕ) (xs ys out : List ℕ) → at + length (xs ++ ys) ≤ length out → at + length xs ≤ length out
-first_room at xs ys out h = omega (arith, length-append xs ys)
+-- how many bytes it has
+pub tail_length : (at : ℕ) (out : List ℕ) → length (mid_of at (length out - at) out) ≡ length out - at
+tail_length at out = length-take-le (length out - at) (drop at out) (omega (arith, length-drop at out))
 
-pub second_room : (at next : ℕ) (xs ys out out₁ : List ℕ) → at + length (xs ++ ys) ≤ length out → next ≡ at + length xs → length out₁ ≡ length out → next + length ys ≤ length out₁
-second_room at next xs ys out out₁ h e q = omega (arith, length-append xs ys)
+-- what is written over its head
+pub tail_written : (out tail : List ℕ) (at : ℕ) (xs : List ℕ) → tail ≡ over xs (mid_of at (length out - at) out) → put_mid at (length out - at) out tail ≡ written out at xs
+tail_written out tail at xs e =
+    let rest : over xs (mid_of at (length out - at) out) ≡ over xs (drop at out) = ap (over xs) (between_to_end out at (length out) (omega arith)) in
+    let behind_it : drop (length out - at) (drop at out) ≡ [] = drop_of_length-le (drop at out) (omega (arith, length-drop at out)) in
+    rw (e ∙ rest, behind_it, append-nil, drop-drop, append_assoc) refl
+
+module _ (out out₁ : List ℕ) (size : ℕ) (xs ys : List ℕ) (e : size ≡ length xs) (q : out₁ ≡ over xs out) where
+  -- the first run leaves room for the second
+  pub room_behind : length (xs ++ ys) ≤ length out → length ys ≤ length (mid_of size (length out₁ - size) out₁)
+  room_behind h =
+      omega (arith, tail_length size out₁, ap length q, length-append xs (drop (length xs) out), length-drop (length xs) out, length-append xs ys)
+
+  -- both are one
+  pub both : (tail : List ℕ) → tail ≡ over ys (mid_of size (length out₁ - size) out₁) → put_mid size (length out₁ - size) out₁ tail ≡ over (xs ++ ys) out
+  both tail p =
+      tail_written out₁ tail size ys p
+      ∙ ap (λ (l : List ℕ). written l size ys) q
+      ∙ behind xs (drop (length xs) out) size ys (sym e)
+      ∙ rw (drop-drop, length-append) refl
+
+-- one byte in front
+pub one_byte : (x : ℕ) (out : List ℕ) → 0 < length out → set out 0 x ≡ over (x ∷ []) out
+one_byte x [] h = absurd (let y : ⊥ = omega arith in y)
+one_byte x (y ∷ out) h = refl
 
 -- ---- an order by its numbers
 
@@ -53,12 +64,15 @@ bytes_parts (Product d a b) = cells 3 d a b
 bytes_parts (Less d a b) = cells 4 d a b
 bytes_parts (Equal d a b) = cells 5 d a b
 
--- the order whose numbers those are: for any kind, for kind 0, for kinds 1 to 5
-pub whole_bytes : (o : Order) (p : Parts) → p ≡ parts_of o → order_bytes o ≡ parts_bytes p
-whole_bytes o p e = bytes_parts o ∙ ap parts_bytes (sym e)
+module _ (o : Order) (p : Parts) (e : p ≡ parts_of o) where
+  -- for any kind
+  pub whole_bytes : order_bytes o ≡ parts_bytes p
+  whole_bytes = bytes_parts o ∙ ap parts_bytes (sym e)
 
-pub constant_bytes : (o : Order) (p : Parts) → p ≡ parts_of o → p.kind ≡ 0 → order_bytes o ≡ head_bytes p ++ number_bytes p.k
-constant_bytes o p e h = whole_bytes o p e ∙ simp (eq-eqb _ _ h)
+  -- for kind 0
+  pub constant_bytes : p.kind ≡ 0 → order_bytes o ≡ head_bytes p ++ number_bytes p.k
+  constant_bytes h = whole_bytes ∙ simp (eq-eqb _ _ h)
 
-pub cells_bytes : (o : Order) (p : Parts) → p ≡ parts_of o → (p.kind ≡ 0 → ⊥) → order_bytes o ≡ head_bytes p ++ (number_bytes p.a ++ number_bytes p.b)
-cells_bytes o p e h = whole_bytes o p e ∙ simp (ne_eqb _ _ h)
+  -- for kinds 1 to 5
+  pub cells_bytes : (p.kind ≡ 0 → ⊥) → order_bytes o ≡ head_bytes p ++ (number_bytes p.a ++ number_bytes p.b)
+  cells_bytes h = whole_bytes ∙ simp (ne_eqb _ _ h)

@@ -1,15 +1,14 @@
 -- What each answer of reading says, in document 01's numbers: what was read with the offset after it, or a refusal with its place.
-use Rattle.std.specs.Prelude.{ℕ, ◌≡◌, refl, cond, ltb}
+use Rattle.std.specs.Prelude.{ℕ, ◌≡◌, refl, cond, ltb, Ok, Err, Some, None}
 use Rattle.std.proofs.Common.{arith}
 use Rattle.definitions.specs.declared.Order.{Order}
-use Rattle.definitions.specs.Answers.{Refusal, refuse, refusal_of}
+use Rattle.std.specs.declared.result.Result.{Result}
+use Rattle.std.specs.declared.option.Option.{Option}
+use Rattle.definitions.specs.declared.Reason.{Reason}
+use Rattle.definitions.specs.Answers.{Refusal, refuse, stated}
 use Rattle.definitions.specs.Bytes.{Number, short, bad, number, Read, fault, found}
-use Rattle.codec.specs.declared.ReadGroups.{ReadGroups}
-use Rattle.codec.specs.declared.ReadGroups.TheVariants as groups
-use Rattle.codec.specs.declared.ReadNumber.{ReadNumber}
-use Rattle.codec.specs.declared.ReadNumber.TheVariants as number
-use Rattle.codec.specs.declared.ReadOrder.{ReadOrder}
-use Rattle.codec.specs.declared.ReadOrder.TheVariants as order
+use Rattle.codec.specs.declared.Fault.{Fault}
+use Rattle.codec.specs.declared.Fault.TheVariants as groups
 
 -- what was read and the offset after it, or a refusal
 pub data ReadResult (A : Type 0) : Type 0 where
@@ -21,21 +20,21 @@ abbrev pub answer_at : {A : Type 0} → (place : ℕ) → Read A → ReadResult 
 answer_at place (fault k) = refused (refuse k place)
 answer_at place (found a next) = given a next
 
--- the cases of read_order's answer
-abbrev pub order_answer : ReadOrder → ReadResult Order
-order_answer (order.Found o next) = given o next
-order_answer (order.Refused verdict) = refused (refusal_of verdict)
+-- what a reading call answers: what was read with the offset after it, else its reason's refusal
+abbrev pub result_answer : {A : Type 0} → Result (A × ℕ) Reason → ReadResult A
+result_answer (Ok read) = given read.0 read.1
+result_answer (Err reason) = refused (stated reason)
 
--- the cases of a number's answer
-abbrev pub number_answer : ReadNumber → ReadResult ℕ
-number_answer (number.Found v next) = given v next
-number_answer (number.Refused verdict) = refused (refusal_of verdict)
+-- the cases of what a number's groups give: its value and how many they are, or why there is no number
+abbrev pub groups_answer : Result (ℕ × ℕ) Fault → Number
+groups_answer (Ok read) = number read.0 read.1
+groups_answer (Err groups.CutShort) = short
+groups_answer (Err groups.Form) = bad
 
--- the cases of what its groups give
-abbrev pub groups_answer : ReadGroups → Number
-groups_answer groups.Short = short
-groups_answer groups.Bad = bad
-groups_answer (groups.Number v bytes) = number v bytes
+-- the order of a kind and the offset after it; 10 where no such order is of that kind
+abbrev pub kind_answer : (next : ℕ) → Option Order → Read Order
+kind_answer next (Some order) = found order next
+kind_answer next None = fault 10
 
 -- a number below a limit, else a refusal
 abbrev pub limited_answer : (limit : ℕ) → Refusal → ReadResult ℕ → ReadResult ℕ

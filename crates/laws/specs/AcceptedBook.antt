@@ -1,9 +1,8 @@
 -- What acceptance says of a book: its counts, its tables' lengths and its numbers as natural numbers (`accepted_sound`); it says no more
 -- (`sound_accepted`), and there is an accepted book for every n to the bid limit and every m from 1 to the pool limit (`books_exist`).
-use Rattle.std.specs.Prelude.{ℕ, zero, suc, ◌+◌, ◌-◌, ◌*◌, ◌≤◌, ◌<◌, ◌≡◌, refl, Bool, true, false, cond, ◌&&◌, List, [], ◌∷◌, leb, length, get_or, replicate, ℤ, pos, negsuc, neg_ℤ, nat_abs, ◌+ℤ◌}
-use Rattle.std.proofs.Common.{sym, ◌∙◌, true≢false, arith, eq-eqb, eqb-true, ne_eqb, le-ltb, leb-true, le-leb}
-use Rattle.std.proofs.Math.Path.{ap}
-use Rattle.std.proofs.Math.Dec.{eqb, eqb-suc-suc}
+use Rattle.std.specs.Prelude.{ℕ, zero, suc, ◌+◌, ◌-◌, ◌*◌, ◌≤◌, ◌<◌, ◌≡◌, refl, Bool, true, false, cond, ◌&&◌, List, [], ◌∷◌, leb, length, get_or, replicate, ℤ, pos, negsuc, neg_ℤ, nat_abs, ◌+ℤ◌, eqb}
+use Rattle.std.proofs.Common.{sym, ◌∙◌, true≢false, arith, eq-eqb, eqb-true, ne_eqb, le-ltb, leb-true, le-leb, ap}
+use Rattle.std.proofs.Math.Dec.{eqb-suc-suc}
 use Rattle.std.proofs.lemmas.List.{length-replicate, get_or-replicate}
 use Rattle.std.proofs.Math.ListN.{get_or-eq_default}
 use Rattle.std.specs.Int.Signed.{le_z}

@@ -1,10 +1,7 @@
 -- The test of feasibility is what it tests: it holds exactly if the numbers sent are those of a feasible clearing (`numbers_feasible`,
 -- `feasible_numbers_lem`).
-use Rattle.std.specs.Prelude.{ℕ, ◌≤◌, ◌<◌, ◌≡◌, true, List, ℤ, nat_abs}
-use Rattle.std.proofs.Math.Path.{refl}
-use Rattle.std.proofs.Common.{sym, ap}
-use Rattle.std.proofs.Math.IntN.{pos}
-use borrow.Author.Tests.{eq-eqb, eqb-true}
+use Rattle.std.specs.Prelude.{ℕ, ◌≤◌, ◌<◌, ◌≡◌, true, List, ℤ, nat_abs, refl, pos}
+use Rattle.std.proofs.Common.{sym, ap, eq-eqb, eqb-true}
 use Rattle.definitions.specs.Arithmetic.{all_to, within}
 use Rattle.definitions.specs.Book.{Book, size, capacity}
 use Rattle.definitions.specs.Checks.{amount_sent, flow_sent, clearing_of, amounts_within, flows_within, balanced, balanced_at, feasible_numbers, SentAs}

@@ -1,9 +1,6 @@
 -- Used amounts along a strict total order of the bids, each a difference of two ranks: they keep within all cuts and are the greatest in dictionary order.
-use Rattle.std.specs.Prelude.{◌≡◌, Bool, ◌&&◌, ◌||◌, ◌≢◌, ◌⊎◌, ℕ, zero, suc, ◌+◌, ◌-◌, ◌≤◌, ◌<◌, ltb}
-use Rattle.std.proofs.Math.Path.{refl, ap}
-use Rattle.std.proofs.Common.{sym, ◌∙◌, true≢false, inl, inr, arith, lt-ltb}
-use Rattle.std.proofs.Math.Bool.{true, false, not}
-use Rattle.std.proofs.Math.Dec.{eqb}
+use Rattle.std.specs.Prelude.{◌≡◌, Bool, ◌&&◌, ◌||◌, ◌≢◌, ◌⊎◌, ℕ, zero, suc, ◌+◌, ◌-◌, ◌≤◌, ◌<◌, ltb, refl, true, false, not, eqb}
+use Rattle.std.proofs.Common.{ap, sym, ◌∙◌, true≢false, inl, inr, arith, lt-ltb}
 use Rattle.definitions.specs.Arithmetic.{on}
 use Rattle.laws.specs.Sum.{sum_ext, sum_add, sum_zero, sum_one}
 use Rattle.laws.specs.Tests.{Eq?, same, diff, eq?, Lt?, less, more, lt?}

@@ -1,11 +1,8 @@
 -- The merit order at raised prices: a strict total order, compared by two keys.
-use Rattle.std.specs.Prelude.{◌≡◌, Bool, true, false, ◌&&◌, ◌||◌, ◌≢◌, ◌⊎◌, ℕ, ◌+◌, ◌*◌, ◌≤◌, ◌<◌, eqb, ltb}
-use Rattle.std.proofs.Math.Path.{refl}
-use Rattle.std.proofs.Common.{sym, true≢false, arith, eq-or-lt_of_le}
-use Rattle.std.proofs.Math.Logic.{inl, inr}
+use Rattle.std.specs.Prelude.{◌≡◌, Bool, true, false, ◌&&◌, ◌||◌, ◌≢◌, ◌⊎◌, ℕ, ◌+◌, ◌*◌, ◌≤◌, ◌<◌, eqb, ltb, refl}
+use Rattle.std.proofs.Common.{sym, true≢false, arith, eq-or-lt_of_le, inl, inr, lt-ltb, le-ltb, eq-eqb, ltb-true, eqb-true}
 use Rattle.std.proofs.Math.Decide.{dec_lt}
 use Rattle.definitions.specs.Arithmetic.{on}
-use borrow.Author.Tests.{lt-ltb, le-ltb, eq-eqb, ltb-true, eqb-true}
 use Rattle.laws.specs.Tests.{is_false, on_le}
 use Rattle.theory.specs.StrictOrder.{StrictTotal}
 use Rattle.theory.specs.Choices.{iff}

@@ -8,7 +8,8 @@ use borrow.Author.Tests.{eq-eqb, ne_eqb}
 use Rattle.definitions.specs.Answers.{none}
 use Rattle.definitions.specs.Calls.{results_refusal, result_at}
 use Rattle.definitions.specs.Views.{is_among, view_of, view_refusal, view_slice, Distinct, OneEach, sum_over}
-use Rattle.laws.specs.Tests.{Eq?, same, diff, eq?, or_right}
+use Rattle.std.proofs.lemmas.Bool.{or_right}
+use Rattle.laws.specs.Tests.{Eq?, same, diff, eq?}
 use Rattle.views.specs.Places.{shown_bid, view_at}
 
 -- ---- the sum

@@ -6,10 +6,10 @@ use Rattle.codec.proofs.order_size.Goals as goal
 
 pub returns-then-p-eq0 : goal.returns-then-p-eq0
 returns-then-p-eq0 c =
-    let p = c.parts_of-p.result in
+    let p = c.from-p.result in
     omega (
       arith,
-      ap length (constant_bytes c.args.order p c.parts_of-p.ensures c.if-p-eq0.true),
+      ap length (constant_bytes c.args.order p c.from-p.ensures c.if-p-eq0.true),
       length-append (head_bytes p) (number_bytes p.k),
       length-append (number_bytes p.kind) (number_bytes p.d),
       c.number_size.ensures.0,
@@ -19,10 +19,10 @@ returns-then-p-eq0 c =
 
 pub returns : goal.returns
 returns c =
-    let p = c.parts_of-p.result in
+    let p = c.from-p.result in
     omega (
       arith,
-      ap length (cells_bytes c.args.order p c.parts_of-p.ensures c.if-p-eq0.false),
+      ap length (cells_bytes c.args.order p c.from-p.ensures c.if-p-eq0.false),
       length-append (head_bytes p) (number_bytes p.a ++ number_bytes p.b),
       length-append (number_bytes p.kind) (number_bytes p.d),
       length-append (number_bytes p.a) (number_bytes p.b),

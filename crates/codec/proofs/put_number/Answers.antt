@@ -1,4 +1,4 @@
--- `codec::put_number` meets its contract: a number has at most five groups.
+-- `put_number` meets its contract: a number has at most five groups.
 use Rattle.definitions.specs.Bytes.{number_bytes}
 use Rattle.codec.proofs.put_number.Goals as goal
 

@@ -1,40 +1,33 @@
 -- `judge_opening` meets its contract: the results' number, the sheet's length and its cells in turn.
-use mathlib.Core.Path.{◌≡◌, ap, ◌∙◌}
-use mathlib.Core.Bool.{not}
-use mathlib.Core.List.{List}
-use Prim.Native.Nat.{ℕ}
-use lib.Dec.{eqb}
-use lib.ListN.{length}
-use borrow.Author.Tests.{eq-eqb, ne_eqb}
+use Rattle.std.proofs.Common.{refl, List, ℕ, length, eqb, eq-eqb, ne_eqb}
+use Rattle.std.proofs.lemmas.Result.{err_from_is_err_and}
 use Rattle.definitions.specs.Limits.{cell_count}
-use Rattle.definitions.specs.Answers.{Refusal, none, first}
-use Rattle.definitions.specs.Calls.{results_refusal, length_refusal, cells_refusal, open_refusal}
-use Rattle.laws.specs.Search.{first_to_refuse, let_through, after_none}
+use Rattle.definitions.specs.Answers.{Refusal}
+use Rattle.definitions.specs.Calls.{length_refusal, open_refusal}
+use Rattle.laws.specs.Search.{first_to_refuse}
 use Rattle.opening.proofs.judge_opening.Goals as goal
-use Rattle.opening.proofs.judge_opening.Goals.{Else-not-is_accepted}
 
 abbrev by_length : List ℕ → Refusal
 by_length sheet = length_refusal (eqb (length sheet) cell_count)
 
--- what is judged behind the results' number
-abbrev next : List ℕ → Refusal
-next sheet = first (by_length sheet) (cells_refusal sheet)
-
-pub returns-then-not-is_accepted : goal.returns-then-not-is_accepted
+pub returns-in_err-counts-clause-refusal : goal.returns-in_err-counts-clause-refusal
 unfolding open_refusal
-returns-then-not-is_accepted c = first_to_refuse c.judge_results-by_results.ensures c.is_accepted.ensures (next c.args.sheet.now) (ap not c.if-not-is_accepted.true)
+returns-in_err-counts-clause-refusal c =
+    let p = err_from_is_err_and c.from_residual.result c.from_residual.ensures.1 in
+    rw (p.1, p.2) (first_to_refuse c.in_err-counts.field-0.0 c.in_err-counts.ensures.refusal _)
 
-passed : (c : Else-not-is_accepted) → results_refusal c.args.n c.args.m c.args.results ≡ none
-passed c = let_through c.judge_results-by_results.ensures c.is_accepted.ensures (ap not c.if-not-is_accepted.false)
-
-pub returns-then-sheet-ne-CELLS : goal.returns-then-sheet-ne-CELLS
+pub returns-then-sheet-ne-CELLS-clause-refusal : goal.returns-then-sheet-ne-CELLS-clause-refusal
 unfolding open_refusal
-returns-then-sheet-ne-CELLS c = rw (passed (goal.at.returns-then-sheet-ne-CELLS c).Else-not-is_accepted) (simp (ne_eqb _ _ c.if-sheet-ne-CELLS.true))
+returns-then-sheet-ne-CELLS-clause-refusal c = rw (← c.in_ok-counts.ensures.refusal, ne_eqb _ _ c.if-sheet-ne-CELLS.true) refl
 
-pub returns : goal.returns
+-- what the cells give, behind the results' number and the length
+pub returns-in_err-judge_cells-clause-refusal : goal.returns-in_err-judge_cells-clause-refusal
 unfolding open_refusal
-returns c =
-    let sheet = c.args.sheet.now in
-    c.judge_cells.ensures
-    ∙ after_none {asked = by_length sheet} (cells_refusal sheet) (simp (eq-eqb _ _ c.if-sheet-ne-CELLS.false))
-    ∙ after_none (next sheet) (passed (goal.at.returns c).Else-not-is_accepted)
+returns-in_err-judge_cells-clause-refusal c =
+    let r = c.from_residual-in_err-judge_cells in
+    let p = err_from_is_err_and r.result r.ensures.1 in
+    rw (p.1, p.2, ← c.in_ok-counts.ensures.refusal, eq-eqb _ _ c.if-sheet-ne-CELLS.false) c.in_err-judge_cells.ensures
+
+pub returns-clause-refusal : goal.returns-clause-refusal
+unfolding open_refusal
+returns-clause-refusal c = rw (← c.in_ok-counts.ensures.refusal, eq-eqb _ _ c.if-sheet-ne-CELLS.false) c.in_ok-judge_cells.ensures

@@ -1,8 +1,5 @@
 -- `text::read` meets its contract: what the reader answers to the whole text is what document 01 says of it.
-use Prim.Native.Nat.{ℕ}
-use mathlib.Core.Path.{◌≡◌, refl, ap, ◌∙◌}
-use mathlib.Core.List.{List}
-use lib.IntN.{ℤ}
+use Rattle.std.proofs.Common.{ℕ, ◌≡◌, refl, ap, ◌∙◌, List, ℤ}
 use Rattle.text.specs.declared.Reader.{Reader}
 use Rattle.text.specs.Reading.{Reading, read_so_far, start_reader, word_ended, fed}
 use Rattle.text.specs.Texts.{none_stored, whole_read, reads}
