@@ -1,11 +1,5 @@
 -- The tests of feasibility as the code makes them: of numbers that are not refused they are together `feasible_numbers` (`tests_feasible`).
-use Prim.Native.Nat.{ℕ, ◌+◌, ◌*◌}
-use Rattle.std.specs.Prelude.{◌≡◌, Bool, List, length, get_or, ℤ, pos, nat_abs}
-use Rattle.std.proofs.Math.Path.{ap, ap₂}
-use Rattle.std.proofs.Common.{◌∙◌, eqb-true}
-use Rattle.std.proofs.Math.Bool.{◌&&◌}
-use native.Mathlib.Omega.{arith}
-use Rattle.std.proofs.Math.Dec.{eqb}
+use Rattle.std.proofs.Common.{ℕ, ◌+◌, ◌*◌, ◌≡◌, Bool, List, length, get_or, ℤ, pos, nat_abs, ap, ap₂, ◌∙◌, eqb-true, ◌&&◌, arith, eqb}
 use Rattle.definitions.specs.Limits.{bid_numbers, quantity_place}
 use Rattle.definitions.specs.Arithmetic.{all_to, within}
 use Rattle.definitions.specs.Answers.{none}
@@ -31,6 +25,12 @@ within_sizes numbers limits step first = all_to (length numbers) (within_size nu
 -- pool p is in balance under the amounts and flows sent
 abbrev pub pool_balanced : (m : ℕ) (bids amounts flows : List ℤ) → ℕ → Bool
 pool_balanced m bids amounts flows = balanced_at (bids_only (length amounts) m bids) (clearing_of m amounts flows)
+
+-- the three tests in turn: the amounts, the flows, the pools
+abbrev pub tested : Book → (amounts flows : List ℤ) → Bool
+tested B amounts flows =
+    within_sizes amounts B.bids bid_numbers quantity_place
+    && (within_sizes flows B.capacities 1 0 && all_to B.m (pool_balanced B.m B.bids amounts flows))
 
 -- what is known of a book and of how many numbers are sent for it, if these are not refused
 pub record SentSizes (B : Book) (amounts flows : ℕ) : Type 0 where
@@ -91,9 +91,6 @@ module _ (B : Book) (amounts flows : List ℤ) (sizes : SentSizes B (length amou
       (ap₂ ◌+◌ (sold_of B (length amounts) count c.accepted p) (inflow_of B (length amounts) count c.flow p))
       (ap₂ ◌+◌ (bought_of B (length amounts) count c.accepted p) (outflow_of B (length amounts) count c.flow p)))
 
-  pub tests_feasible :
-      (within_sizes amounts B.bids bid_numbers quantity_place
-      && (within_sizes flows B.capacities 1 0 && all_to B.m (pool_balanced B.m B.bids amounts flows)))
-      ≡ feasible_numbers B amounts flows
+  pub tests_feasible : tested B amounts flows ≡ feasible_numbers B amounts flows
   unfolding feasible_numbers
   tests_feasible = ap₂ ◌&&◌ by_bids_lem (ap₂ ◌&&◌ by_lines_lem by_pools_lem)

@@ -1,19 +1,14 @@
 -- What is known of a call of the writer that is not refused (`write_within`), and what each call leaves.
 use Rattle.std.specs.Prelude.{ℕ, ◌≤◌, ◌≡◌, cond, ltb, List, length}
-use Rattle.std.proofs.Math.Path.{refl, ap}
+use Rattle.std.proofs.Common.{ap, ◌∙◌}
 use Rattle.std.proofs.Math.Bool.{false}
-use Rattle.std.proofs.Common.{true≢false}
 use borrow.Author.Tests.{ltb-false}
-use Rattle.definitions.specs.Answers.{Refusal, none, refuse, first, unless, is_none}
+use Rattle.definitions.specs.declared.Reason.{Reason}
+use Rattle.definitions.specs.Answers.{Refusal, none, refuse, first, unless, is_none, stated}
 use Rattle.definitions.specs.Calls.{counts_refusal}
-use Rattle.definitions.specs.Plan as given
-use Rattle.orders.specs.declared.Written.{Written}
 use Rattle.definitions.specs.Plan.{Plan, position_refusal, room_refusal, ask_refusal, write_refusal, over, bytes_written, nothing_written, written_counts, write_counts, write_slice, longest_order}
+use Rattle.laws.specs.Search.{first_to_refuse, after_none}
 use Rattle.laws.specs.Refusal.{test_failed, first_left, first_right, unless_refused}
-
--- "the counts of bytes and orders and the next position"
-abbrev pub counts_of : Written → given.Written
-counts_of w = record { bytes = w.bytes; orders = w.orders; next = w.next }
 
 -- 13 by the total
 abbrev pub past_refusal : (total at : ℕ) → Refusal
@@ -36,19 +31,16 @@ module _ (P : Plan) (n m at room : ℕ) where
         room = ltb-false room longest_order (test_failed _ 14 0 (first_right (ask_refusal P n m at) (room_refusal room) e));
       }
 
-  -- the counts passed: the rest of the judging, by the total
-  pub by_room : counts_refusal n m ≡ none → write_refusal P n m at room ≡ first (past_refusal (length (P n m)) at) (room_refusal room)
+  -- the counts are refused
+  pub by_counts : (r : Reason) → stated r ≡ counts_refusal n m → stated r ≡ write_refusal P n m at room
   unfolding write_refusal ask_refusal
-  by_room e = ap (λ (r : Refusal). first (first r (position_refusal (P n m) at)) (room_refusal room)) e
+  by_counts r e = first_to_refuse r (first_to_refuse r e (position_refusal (P n m) at)) (room_refusal room)
 
-  -- or they did not
-  pub by_counts : is_none (counts_refusal n m) ≡ false → write_refusal P n m at room ≡ counts_refusal n m
+  -- or they passed, and the rest is judged by the total
+  pub by_room : none ≡ counts_refusal n m → (r : Refusal) (total : ℕ) → total ≡ length (P n m) → r ≡ first (past_refusal total at) (room_refusal room)
+      → r ≡ write_refusal P n m at room
   unfolding write_refusal ask_refusal
-  by_counts = go (counts_refusal n m)
-    where
-      go : (r : Refusal) → is_none r ≡ false → first (first r (position_refusal (P n m) at)) (room_refusal room) ≡ r
-      go none e = absurd (true≢false e)
-      go (refuse k x) e = refl
+  by_room e r total t h = rw (← t) (h ∙ ap (λ (x : Refusal). first x (room_refusal room)) (after_none (past_refusal total at) e))
 
   pub counts_accepted : write_refusal P n m at room ≡ none → write_counts P n m at room ≡ written_counts P n m at room
   unfolding write_counts

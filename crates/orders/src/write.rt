@@ -1,16 +1,17 @@
 // The plan's orders as bytes, from a position on.
 ghost use Rattle.std.specs.Prelude.{◌≡◌, ◌≤◌, length};
-ghost use Rattle.definitions.specs.Answers.{none, first, refusal_of};
-ghost use Rattle.definitions.specs.Plan.{bytes_written, nothing_written, written_counts, room_refusal, over};
+ghost use Rattle.definitions.specs.Answers.{first, refusal_of};
+ghost use Rattle.definitions.specs.Plan.{bytes_written, written_counts, room_refusal, over};
 ghost use Rattle.plan.specs.Plan.{plan};
 ghost use Rattle.orders.specs.Tables.{IsTables};
-ghost use Rattle.orders.specs.Calls.{counts_of, past_refusal};
+ghost use Rattle.orders.specs.Answer.{written_of};
+ghost use Rattle.orders.specs.Calls.{past_refusal};
 
 use crate::Written;
 use crate::layout::TABLES;
-use crate::walk::{Within, order_within, phase_from};
+use crate::walk::{order_within, phase_from};
 use codec::write_order;
-use definitions::Verdict;
+use definitions::{Reason, Verdict};
 
 // The longest order, in bytes.
 const LONGEST_ORDER: usize = 8;
@@ -20,24 +21,12 @@ pub fn judge_room(total: usize, at: usize, room: usize) -> Verdict
     ensures { refusal_of result ≡ first (past_refusal total at) (room_refusal room) }
 {
     if total < at {
-        return Verdict::Position;
+        return Err(Reason::Position);
     }
     if room < LONGEST_ORDER {
-        return Verdict::Room;
+        return Err(Reason::Room);
     }
-    Verdict::Accepted
-}
-
-// What a refused call gives.
-pub fn none_written(verdict: Verdict) -> Written
-    ensures { (result.verdict ≡ verdict) × (counts_of result ≡ nothing_written) }
-{
-    Written {
-        verdict,
-        bytes: 0,
-        orders: 0,
-        next: 0,
-    }
+    Ok(())
 }
 
 // As many whole orders as fit, by tables made before. The phase that the next order is in is kept from order to order.
@@ -51,37 +40,30 @@ pub fn write_from(
 ) -> Written
     requires tables { IsTables n m tables.now }
     requires total_value { total ≡ length (plan n m) }
-    ensures verdict { refusal_of result.verdict ≡ none }
-    ensures counts { counts_of result ≡ written_counts plan n m at (length out.old) }
+    requires at_le_total { at ≤ total }
+    ensures counts { written_of result ≡ written_counts plan n m at (length out.old) }
     ensures slice { out.new ≡ over (bytes_written plan n m at (length out.old)) out.old }
 {
-    let mut next = at;
     let mut bytes = 0;
-    let mut orders = 0;
     let mut k = 0;
     let mut x = at;
-    while next < total {
+    for next in at..total {
         let place = phase_from(n, m, tables, k, x);
         let order = order_within(n, m, tables, place);
-        let size = write_order(out, bytes, order);
-        if size == 0 {
+        let Some(size) = write_order(out, bytes, order) else {
             return Written {
-                verdict: Verdict::Accepted,
                 bytes,
-                orders,
+                orders: next - at,
                 next,
             };
-        }
+        };
         bytes += size;
-        orders += 1;
-        next += 1;
         k = place.0;
         x = place.1 + 1;
     }
     Written {
-        verdict: Verdict::Accepted,
         bytes,
-        orders,
-        next,
+        orders: total - at,
+        next: total,
     }
 }

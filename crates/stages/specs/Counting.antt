@@ -1,5 +1,5 @@
 -- The stage that a text has come to after each word, where a number is stored, and what the text is if it ends there.
-use Rattle.std.specs.Prelude.{ℕ, ◌+◌, ◌*◌, Bool, true, false, cond, List, ltb, eqb, set, take, drop, ℤ, pos, nat_abs, Option, Some, None, Ok, Err}
+use Rattle.std.specs.Prelude.{ℕ, ◌+◌, ◌*◌, Bool, cond, List, ltb, eqb, set, take, drop, ℤ, pos, nat_abs, Option, Some, None, Ok, Err, is_err}
 use Rattle.std.specs.declared.result.Result.{Result}
 use Rattle.std.specs.Int.Signed.{lt_z}
 use Rattle.std.specs.Result.{result_and}
@@ -83,8 +83,7 @@ stored_at (Err fault) at numbers = numbers
 
 -- the answer is known, whatever follows
 abbrev pub decided : Progress → Bool
-decided (Ok s) = false
-decided (Err why) = true
+decided s = is_err s
 
 -- ---- the answer
 

@@ -1,92 +1,73 @@
 -- `write_plan` meets its contract: the counts are judged first, then position and room; if all pass, the orders that fit are written.
-use mathlib.Core.Path.{◌≡◌, sym, ap, ◌∙◌}
-use Prim.Native.Nat.{ℕ}
-use lib.ListN.{length}
-use mathlib.Core.Bool.{false}
-use Rattle.definitions.specs.Answers.{Refusal, first, refusal_of, is_none}
-use Rattle.definitions.specs.declared.Verdict.{Verdict}
-use Rattle.definitions.specs.Plan.{nothing_written, room_refusal, write_refusal, write_counts, write_slice}
-use Rattle.laws.specs.Search.{turned_away, let_through}
+use Rattle.std.proofs.Common.{◌≡◌, sym, ◌∙◌, length}
+use Rattle.std.proofs.lemmas.Result.{err_from_is_err_and}
+use Rattle.definitions.specs.declared.Reason.{Reason}
+use Rattle.definitions.specs.Answers.{none, stated}
+use Rattle.definitions.specs.Plan.{nothing_written, write_refusal, write_counts, write_slice}
+use Rattle.laws.specs.Search.{turned_away}
 use Rattle.plan.specs.Plan.{plan}
-use Rattle.orders.specs.declared.Written.{Written}
-use Rattle.orders.specs.Calls.{counts_of, past_refusal, by_counts, by_room, counts_accepted, slice_accepted, counts_refused, slice_refused}
-use mathlib.Core.Bool.{not}
+use Rattle.orders.specs.Calls.{by_counts, by_room, counts_accepted, slice_accepted, counts_refused, slice_refused}
 use Rattle.orders.proofs.write_plan.Goals as goal
-use Rattle.orders.proofs.write_plan.Goals.{After-judge_room-verdict, Else-not-is_accepted, Start}
-
--- the refusal of the call
-abbrev refusal : Start → Refusal
-refusal s = write_refusal plan s.args.n s.args.m s.args.at (length s.args.out.now)
+use Rattle.orders.proofs.write_plan.Goals.{Start, After-write_from}
 
 -- a refused call gives nothing and leaves the slice
-nothing : (s : Start) (w : Written) (v : Verdict) → (w.verdict ≡ v) × (counts_of w ≡ nothing_written) → refusal_of v ≡ refusal s → is_none (refusal s) ≡ false
-    → (refusal_of w.verdict ≡ refusal s) × (counts_of w ≡ write_counts plan s.args.n s.args.m s.args.at (length s.args.out.now))
-    × (s.args.out.now ≡ write_slice plan s.args.n s.args.m s.args.at s.args.out.now)
-nothing s w v gives judged refused = (
-  ap refusal_of gives.0 ∙ judged,
-  gives.1 ∙ sym (counts_refused plan s.args.n s.args.m s.args.at (length s.args.out.now) refused),
-  sym (slice_refused plan s.args.n s.args.m s.args.at s.args.out.now refused),
-)
+nothing : (s : Start) (r : Reason) → let a = s.args in stated r ≡ write_refusal plan a.n a.m a.at (length a.out.now)
+    → (nothing_written ≡ write_counts plan a.n a.m a.at (length a.out.now)) × (a.out.now ≡ write_slice plan a.n a.m a.at a.out.now)
+nothing s r judged =
+    let a = s.args in
+    let refused = turned_away r judged in
+    (sym (counts_refused plan a.n a.m a.at (length a.out.now) refused), sym (slice_refused plan a.n a.m a.at a.out.now refused))
 
-pub returns-then-not-is_accepted-clause-verdict : goal.returns-then-not-is_accepted-clause-verdict
-returns-then-not-is_accepted-clause-verdict c =
-    let counts = c.judge_counts-counts.ensures in
-    let away = turned_away counts c.is_accepted.ensures (ap not c.if-not-is_accepted.true) in
-    let by = by_counts plan c.args.n c.args.m c.args.at (length c.args.out.now) away in
-    let all = nothing c.before.before.before.before.before.before c.none_written.result _ c.none_written.ensures (counts ∙ sym by) (ap is_none by ∙ away) in all.0
+pub returns-in_err-judge_counts-clause-refusal : goal.returns-in_err-judge_counts-clause-refusal
+returns-in_err-judge_counts-clause-refusal c =
+    let p = err_from_is_err_and c.from_residual.result c.from_residual.ensures.1 in
+    let e = c.in_err-judge_counts in
+    rw (p.1, p.2) (by_counts plan _ _ _ _ _ e.ensures.refusal)
 
-pub returns-then-not-is_accepted-clause-counts : goal.returns-then-not-is_accepted-clause-counts
-returns-then-not-is_accepted-clause-counts c =
-    let counts = c.judge_counts-counts.ensures in
-    let away = turned_away counts c.is_accepted.ensures (ap not c.if-not-is_accepted.true) in
-    let by = by_counts plan c.args.n c.args.m c.args.at (length c.args.out.now) away in
-    let all = nothing c.before.before.before.before.before.before c.none_written.result _ c.none_written.ensures (counts ∙ sym by) (ap is_none by ∙ away) in all.1
+pub returns-in_err-judge_counts-clause-counts : goal.returns-in_err-judge_counts-clause-counts
+returns-in_err-judge_counts-clause-counts c =
+    let p = err_from_is_err_and c.from_residual.result c.from_residual.ensures.1 in
+    let e = c.in_err-judge_counts in
+    let s = goal.at.returns-in_err-judge_counts-clause-counts c in
+    rw p.1 (nothing s.Start e.field-0.0 (by_counts plan _ _ _ _ _ e.ensures.refusal)).0
 
-pub returns-then-not-is_accepted-clause-slice : goal.returns-then-not-is_accepted-clause-slice
-returns-then-not-is_accepted-clause-slice c =
-    let counts = c.judge_counts-counts.ensures in
-    let away = turned_away counts c.is_accepted.ensures (ap not c.if-not-is_accepted.true) in
-    let by = by_counts plan c.args.n c.args.m c.args.at (length c.args.out.now) away in
-    let all = nothing c.before.before.before.before.before.before c.none_written.result _ c.none_written.ensures (counts ∙ sym by) (ap is_none by ∙ away) in all.2
+pub returns-in_err-judge_counts-clause-slice : goal.returns-in_err-judge_counts-clause-slice
+returns-in_err-judge_counts-clause-slice c =
+    let e = c.in_err-judge_counts in
+    let s = goal.at.returns-in_err-judge_counts-clause-slice c in
+    (nothing s.Start e.field-0.0 (by_counts plan _ _ _ _ _ e.ensures.refusal)).1
 
--- the verdict on position and room is that on the call
-room : (c : After-judge_room-verdict) → let a = c.args in
-    refusal_of c.judge_room-verdict.result ≡ write_refusal plan a.n a.m a.at (length a.out.now)
-room c =
-    let a = c.args in
-    c.judge_room-verdict.ensures
-    ∙ ap (λ (k : ℕ). first (past_refusal k a.at) (room_refusal (length a.out.now))) c.length_of-total.ensures
-    ∙ sym (by_room plan a.n a.m a.at (length a.out.now) (let_through c.judge_counts-counts.ensures c.is_accepted.ensures (ap not c.if-not-is_accepted.false)))
+pub returns-in_err-judge_room-clause-refusal : goal.returns-in_err-judge_room-clause-refusal
+returns-in_err-judge_room-clause-refusal c =
+    let r = c.from_residual-in_err-judge_room in
+    let p = err_from_is_err_and r.result r.ensures.1 in
+    rw (p.1, p.2) (by_room plan _ _ _ _ c.in_ok-judge_counts.ensures.refusal _ _ c.length_of-total.ensures c.in_err-judge_room.ensures)
 
-pub returns-then-not-is_accepted-2-clause-verdict : goal.returns-then-not-is_accepted-2-clause-verdict
-returns-then-not-is_accepted-2-clause-verdict c =
-    let away = turned_away (room (goal.at.returns-then-not-is_accepted-2-clause-verdict c).After-judge_room-verdict) c.is_accepted-2.ensures (ap not c.if-not-is_accepted-2.true) in
-    let all = nothing c.before.before.before.before.before.before.before.before.before.before.before.before c.none_written-then-not-is_accepted-2.result _ c.none_written-then-not-is_accepted-2.ensures (room (goal.at.returns-then-not-is_accepted-2-clause-verdict c).After-judge_room-verdict) away in all.0
+pub returns-in_err-judge_room-clause-counts : goal.returns-in_err-judge_room-clause-counts
+returns-in_err-judge_room-clause-counts c =
+    let r = c.from_residual-in_err-judge_room in
+    let p = err_from_is_err_and r.result r.ensures.1 in
+    let s = goal.at.returns-in_err-judge_room-clause-counts c in
+    rw p.1 (nothing s.Start c.in_err-judge_room.field-0.0 (by_room plan _ _ _ _ c.in_ok-judge_counts.ensures.refusal _ _ c.length_of-total.ensures c.in_err-judge_room.ensures)).0
 
-pub returns-then-not-is_accepted-2-clause-counts : goal.returns-then-not-is_accepted-2-clause-counts
-returns-then-not-is_accepted-2-clause-counts c =
-    let away = turned_away (room (goal.at.returns-then-not-is_accepted-2-clause-counts c).After-judge_room-verdict) c.is_accepted-2.ensures (ap not c.if-not-is_accepted-2.true) in
-    let all = nothing c.before.before.before.before.before.before.before.before.before.before.before.before c.none_written-then-not-is_accepted-2.result _ c.none_written-then-not-is_accepted-2.ensures (room (goal.at.returns-then-not-is_accepted-2-clause-counts c).After-judge_room-verdict) away in all.1
+pub returns-in_err-judge_room-clause-slice : goal.returns-in_err-judge_room-clause-slice
+returns-in_err-judge_room-clause-slice c =
+    let s = goal.at.returns-in_err-judge_room-clause-slice c in
+    (nothing s.Start c.in_err-judge_room.field-0.0 (by_room plan _ _ _ _ c.in_ok-judge_counts.ensures.refusal _ _ c.length_of-total.ensures c.in_err-judge_room.ensures)).1
 
-pub returns-then-not-is_accepted-2-clause-slice : goal.returns-then-not-is_accepted-2-clause-slice
-returns-then-not-is_accepted-2-clause-slice c =
-    let away = turned_away (room (goal.at.returns-then-not-is_accepted-2-clause-slice c).After-judge_room-verdict) c.is_accepted-2.ensures (ap not c.if-not-is_accepted-2.true) in
-    let all = nothing c.before.before.before.before.before.before.before.before.before.before.before.before c.none_written-then-not-is_accepted-2.result _ c.none_written-then-not-is_accepted-2.ensures (room (goal.at.returns-then-not-is_accepted-2-clause-slice c).After-judge_room-verdict) away in all.2
+-- nothing is refused
+passed : (c : After-write_from) → let a = c.args in none ≡ write_refusal plan a.n a.m a.at (length a.out.now)
+passed c = by_room plan _ _ _ _ c.in_ok-judge_counts.ensures.refusal none _ c.length_of-total.ensures c.in_ok-judge_room.ensures
 
-pub returns-clause-verdict : goal.returns-clause-verdict
-returns-clause-verdict c =
-    let a = c.args in
-    let accepted = let_through (room (goal.at.returns-clause-verdict c).After-judge_room-verdict) c.is_accepted-2.ensures (ap not c.if-not-is_accepted-2.false) in
-    c.write_from.ensures.verdict ∙ sym accepted
+pub returns-clause-refusal : goal.returns-clause-refusal
+returns-clause-refusal c = passed (goal.at.returns-clause-refusal c).After-write_from
 
 pub returns-clause-counts : goal.returns-clause-counts
 returns-clause-counts c =
-    let a = c.args in
-    let accepted = let_through (room (goal.at.returns-clause-counts c).After-judge_room-verdict) c.is_accepted-2.ensures (ap not c.if-not-is_accepted-2.false) in
-    c.write_from.ensures.counts ∙ sym (counts_accepted plan a.n a.m a.at (length a.out.now) accepted)
+    let s = goal.at.returns-clause-counts c in
+    c.write_from.ensures.counts ∙ sym (counts_accepted plan _ _ _ _ (sym (passed s.After-write_from)))
 
 pub returns-clause-slice : goal.returns-clause-slice
 returns-clause-slice c =
-    let a = c.args in
-    let accepted = let_through (room (goal.at.returns-clause-slice c).After-judge_room-verdict) c.is_accepted-2.ensures (ap not c.if-not-is_accepted-2.false) in
-    c.write_from.ensures.slice ∙ sym (slice_accepted plan a.n a.m a.at a.out.now accepted)
+    let s = goal.at.returns-clause-slice c in
+    c.write_from.ensures.slice ∙ sym (slice_accepted plan _ _ _ _ (sym (passed s.After-write_from)))

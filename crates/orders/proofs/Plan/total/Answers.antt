@@ -1,22 +1,16 @@
--- `total` meets its contract: the counts are judged first; if they pass, the total is the plan's length.
-use mathlib.Core.Path.{◌≡◌, sym, ◌∙◌}
-use Rattle.definitions.specs.Answers.{none}
-use Rattle.definitions.specs.Calls.{counts_refusal}
-use Rattle.laws.specs.Search.{turned_away, let_through}
+-- `total` meets its contract: 0 after a refusal of the counts, else the plan's length.
+use Rattle.std.proofs.Common.{sym, ◌∙◌}
+use Rattle.std.proofs.lemmas.Result.{err_from_is_err_and}
+use Rattle.laws.specs.Search.{turned_away}
 use Rattle.plan.specs.Plan.{plan}
 use Rattle.plan.proofs.Asking.{total_accepted, total_refused}
-use mathlib.Core.Bool.{not}
-use mathlib.Core.Path.{ap}
 use Rattle.orders.proofs.Plan.total.Goals as goal
-use Rattle.orders.proofs.Plan.total.Goals.{Else-not-is_accepted}
 
-pub returns-then-not-is_accepted-clause-orders : goal.returns-then-not-is_accepted-clause-orders
-returns-then-not-is_accepted-clause-orders c =
-    let judged = c.judge_counts-verdict.ensures in sym (total_refused plan _ _ (turned_away judged c.is_accepted.ensures (ap not c.if-not-is_accepted.true)))
+pub returns-in_err-judge_counts-clause-count : goal.returns-in_err-judge_counts-clause-count
+returns-in_err-judge_counts-clause-count c =
+    let p = err_from_is_err_and c.from_residual.result c.from_residual.ensures.1 in
+    let e = c.in_err-judge_counts in
+    rw p.1 (sym (total_refused plan _ _ (turned_away e.field-0.0 e.ensures.refusal)))
 
-passed : (c : Else-not-is_accepted) → let a = c.args in counts_refusal a.n a.m ≡ none
-passed c = let_through c.judge_counts-verdict.ensures c.is_accepted.ensures (ap not c.if-not-is_accepted.false)
-
-pub returns-clause-orders : goal.returns-clause-orders
-returns-clause-orders c =
-    c.length_of.ensures ∙ sym (total_accepted plan _ _ (passed c.before.before.before))
+pub returns-clause-count : goal.returns-clause-count
+returns-clause-count c = c.length_of.ensures ∙ sym (total_accepted plan _ _ (sym c.in_ok-judge_counts.ensures.refusal))

@@ -1,6 +1,6 @@
 -- `write_from` meets its contract. The loop keeps `Filled`: the orders so far, all that fit of them, are written in front of what the slice held,
-use mathlib.Core.List.{List}
-use Prim.Native.Nat.{ℕ, ◌-◌}
+-- and a place of the next position.
+use Rattle.std.proofs.Common.{ℕ, List}
 use Rattle.plan.specs.Table.{table}
 use Rattle.plan.specs.Plan.{plan}
 use Rattle.orders.specs.Steps.{PhasesPassed}
@@ -8,12 +8,9 @@ use Rattle.orders.proofs.Filling.{Filled}
 use Rattle.orders.proofs.write.write_from.Given as goal
 
 -- the slice so far, and a place of the next position
-pub record State (n m at : ℕ) (before out : List ℕ) (next bytes orders k x : ℕ) : Type 0 where
-  pub filled : Filled plan n m at before out next bytes orders
+pub record State (n m at : ℕ) (before out : List ℕ) (next bytes k x : ℕ) : Type 0 where
+  pub filled : Filled plan n m at before out next bytes
   pub place : PhasesPassed (table n m) next x k
 
 abbrev pub invariant-loop-next : goal.invariant-loop-next
-invariant-loop-next l = State l.n l.m l.at l.initial.out l.out l.next l.bytes l.orders l.k l.x
-
-abbrev pub decreases-loop-next : goal.decreases-loop-next
-decreases-loop-next l = l.total - l.next
+invariant-loop-next l = State l.n l.m l.at l.initial.out l.out l.next l.bytes l.k l.x
