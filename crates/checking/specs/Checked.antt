@@ -1,8 +1,5 @@
 -- What the code tests of numbers that are not refused is what yes says (`answer_exact`).
-use Rattle.std.specs.Prelude.{◌≡◌, Bool, true, false, ◌&&◌, List, map, length, ℤ}
-use Rattle.std.proofs.Math.Path.{sym}
-use Rattle.std.proofs.Common.{ap, ◌∙◌, true≢false, arith}
-use Rattle.std.proofs.Math.IntN.{nat_abs}
+use Rattle.std.proofs.Common.{◌≡◌, Bool, true, false, ◌&&◌, List, map, length, ℤ, sym, ap, ◌∙◌, true≢false, arith, nat_abs}
 use Rattle.definitions.specs.Limits.{cell_count}
 use Rattle.definitions.specs.Arithmetic.{eq_z}
 use Rattle.definitions.specs.Book.{Book}
