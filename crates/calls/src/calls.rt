@@ -1,4 +1,4 @@
-// The calls: each has a form of input, and a function that makes the call and prints what it gives and leaves.
+// The calls: a function for each reads the form of its input, makes the call and prints what it gives and leaves.
 // Word 0 is the call; behind it stand the call's numbers, then its slices. Each slice that is lent is a part, of the length given, of an array that
 // has room for any input.
 use checking::check;
@@ -17,6 +17,19 @@ use words::{
     FromWord, Words, copy, number, room, signed, slice_length, slices, slices_and_bytes, word,
 };
 
+// Why a call is not made or not printed: the input is that of no call, or a write failed.
+#[derive(Drop)]
+pub enum Failure {
+    Unreadable,
+    Write(io::Error),
+}
+
+impl From<io::Error> for Failure {
+    fn from(error: io::Error) -> Failure {
+        Failure::Write(error)
+    }
+}
+
 // Which call is made.
 #[derive(Clone, Copy)]
 pub enum Call {
@@ -30,19 +43,6 @@ pub enum Call {
     Write,
     View,
     Check,
-}
-
-// Why a call is not made or not printed: the input is that of no call, or a write failed.
-#[derive(Drop)]
-pub enum Failure {
-    Unreadable,
-    Write(io::Error),
-}
-
-impl From<io::Error> for Failure {
-    fn from(error: io::Error) -> Failure {
-        Failure::Write(error)
-    }
 }
 
 impl TryFrom<u32> for Call {
@@ -82,7 +82,9 @@ impl Call {
     }
 }
 
-// Lends as much of a room as the slice at a position fills, with the slice's entries copied in.
+// ---- What is lent
+
+// Lends as much of a room as the slice at a position fills, with the slice's entries in it.
 fn lend<'a, T: FromWord>(input: &[u8], at: usize, room: &'a mut [T; Words::ROOM]) -> &'a mut [T] {
     let places = &mut room[..slice_length(input, at)];
     copy(input, at, places);
@@ -91,20 +93,20 @@ fn lend<'a, T: FromWord>(input: &[u8], at: usize, room: &'a mut [T; Words::ROOM]
 
 // Room for the tables of any book.
 #[derive(Drop)]
-struct BookRoom {
+struct Tables {
     bids: [i32; Words::ROOM],
     capacities: [i32; Words::ROOM],
 }
 
-impl BookRoom {
-    fn new() -> BookRoom {
-        BookRoom {
+impl Tables {
+    fn new() -> Tables {
+        Tables {
             bids: room(),
             capacities: room(),
         }
     }
 
-    // The book of n and m, words 1 and 2, with the tables at two positions.
+    // Lends the book of n and m, which are words 1 and 2, with the tables at two positions.
     fn lend(&mut self, input: &[u8], bids: usize, capacities: usize) -> LentBook<'_> {
         LentBook {
             n: number(input, 1),
@@ -115,71 +117,84 @@ impl BookRoom {
     }
 }
 
-// The verdict and the count of orders.
-fn print_counted(rt: &impl Print, answer: Result<usize, Reason>) -> io::Result<()> {
-    print_verdict(rt, answer.map(|_| ()))?;
-    print_number(rt, b"orders", answer.unwrap_or(0))
-}
+// ---- A bid alone: m and the bid's numbers
 
-// A bid alone: m and the bid's numbers.
 fn call_bid(rt: &impl Print, input: &[u8]) -> Result<(), Failure> {
     let [] = slices::<0>(input, 5).ok_or(Failure::Unreadable)?;
-    let (pool, price, quantity) = (signed(input, 2), signed(input, 3), signed(input, 4));
-    Ok(print_verdict(rt, judge_bid(number(input, 1), pool, price, quantity))?)
+    let m = number(input, 1);
+    let verdict = judge_bid(m, signed(input, 2), signed(input, 3), signed(input, 4));
+    Ok(print_verdict(rt, verdict)?)
 }
 
-// Opening: n and m; sheet, results.
-fn call_open(rt: &impl Print, input: &[u8]) -> Result<(), Failure> {
-    let [first, second] = slices::<2>(input, 3).ok_or(Failure::Unreadable)?;
-    let mut sheet = room();
-    let mut results = room();
-    let sheet = lend(input, first, &mut sheet);
-    let results = lend(input, second, &mut results);
-    print_verdict(rt, open(number(input, 1), number(input, 2), sheet, results))?;
-    Ok(print_numbers(rt, b"results", results)?)
-}
+// ---- Calls on a book: n and m; bids, capacities, sheet
 
-// Calls on a book: n and m; bids, capacities, sheet.
 fn call_seal(rt: &impl Print, input: &[u8]) -> Result<(), Failure> {
-    let [first, second, third] = slices::<3>(input, 3).ok_or(Failure::Unreadable)?;
-    let mut tables = BookRoom::new();
-    let book = tables.lend(input, first, second);
-    let mut sheet = room();
-    let sheet = lend(input, third, &mut sheet);
+    let [bids, capacities, sheet] = slices::<3>(input, 3).ok_or(Failure::Unreadable)?;
+    let mut tables = Tables::new();
+    let book = tables.lend(input, bids, capacities);
+    let mut cells = room();
+    let sheet = lend(input, sheet, &mut cells);
     print_verdict(rt, seal(&book, sheet).map(|_| ()))?;
     Ok(print_numbers(rt, b"sheet", sheet)?)
 }
 
 fn call_clear(rt: &impl Print, input: &[u8]) -> Result<(), Failure> {
-    let [first, second, third] = slices::<3>(input, 3).ok_or(Failure::Unreadable)?;
-    let mut tables = BookRoom::new();
-    let book = tables.lend(input, first, second);
-    let mut sheet = room();
-    let sheet = lend(input, third, &mut sheet);
+    let [bids, capacities, sheet] = slices::<3>(input, 3).ok_or(Failure::Unreadable)?;
+    let mut tables = Tables::new();
+    let book = tables.lend(input, bids, capacities);
+    let mut cells = room();
+    let sheet = lend(input, sheet, &mut cells);
     let cleared = clear(&book, sheet);
     print_counted(rt, cleared.map(|cleared| cleared.orders))?;
     print_number(rt, b"welfare", cleared.map_or(0, |cleared| cleared.welfare))?;
     Ok(print_numbers(rt, b"sheet", sheet)?)
 }
 
-// Running: sheet, bytes.
+// The verdict and the count of orders, 0 on a refusal.
+fn print_counted(rt: &impl Print, orders: Result<usize, Reason>) -> io::Result<()> {
+    print_verdict(rt, orders.map(|_| ()))?;
+    print_number(rt, b"orders", orders.unwrap_or(0))
+}
+
+// ---- Opening: n and m; sheet, results
+
+fn call_open(rt: &impl Print, input: &[u8]) -> Result<(), Failure> {
+    let [sheet, results] = slices::<2>(input, 3).ok_or(Failure::Unreadable)?;
+    let mut cells = room();
+    let sheet = lend(input, sheet, &mut cells);
+    let mut numbers = room();
+    let results = lend(input, results, &mut numbers);
+    print_verdict(rt, open(number(input, 1), number(input, 2), sheet, results))?;
+    Ok(print_numbers(rt, b"results", results)?)
+}
+
+// ---- Running: sheet, bytes
+
 fn call_run(rt: &impl Print, input: &[u8]) -> Result<(), Failure> {
-    let ([first], second) = slices_and_bytes::<1>(input, 1).ok_or(Failure::Unreadable)?;
-    let mut sheet = room();
+    let ([sheet], plan) = slices_and_bytes::<1>(input, 1).ok_or(Failure::Unreadable)?;
+    let mut cells = room();
+    let sheet = lend(input, sheet, &mut cells);
     let mut bytes = room();
-    let sheet = lend(input, first, &mut sheet);
-    let bytes = lend(input, second, &mut bytes);
-    print_counted(rt, run(sheet, bytes))?;
+    let plan = lend(input, plan, &mut bytes);
+    print_counted(rt, run(sheet, plan))?;
     Ok(print_numbers(rt, b"sheet", sheet)?)
 }
 
-// An order's kind and target, then its constant or the two cells that it reads.
-fn print_order(rt: &impl Print, order: Order) -> io::Result<()> {
-    let Parts { kind, d, k, a, b } = Parts::from(order);
-    match order {
-        Order::Constant { .. } => println!(rt; "order {kind} {d} {k}"),
-        _ => println!(rt; "order {kind} {d} {a} {b}"),
+// ---- Asking the plan: n, m and a position
+
+fn call_ask(rt: &impl Print, input: &[u8]) -> Result<(), Failure> {
+    let [] = slices::<0>(input, 4).ok_or(Failure::Unreadable)?;
+    let position = Position {
+        n: number(input, 1),
+        m: number(input, 2),
+        at: number(input, 3),
+    };
+    let asked = position.ask();
+    print_verdict(rt, asked.map(|_| ()))?;
+    if let Ok(asked) = asked {
+        print_asked(rt, asked)?;
     }
+    Ok(())
 }
 
 fn print_asked(rt: &impl Print, asked: Asked) -> io::Result<()> {
@@ -192,79 +207,83 @@ fn print_asked(rt: &impl Print, asked: Asked) -> io::Result<()> {
     }
 }
 
-// Asking the plan: n, m and a position.
-fn call_ask(rt: &impl Print, input: &[u8]) -> Result<(), Failure> {
-    let [] = slices::<0>(input, 4).ok_or(Failure::Unreadable)?;
-    let position = Position {
-        n: number(input, 1),
-        m: number(input, 2),
-        at: number(input, 3),
-    };
-    let answer = position.ask();
-    print_verdict(rt, answer.map(|_| ()))?;
-    if let Ok(asked) = answer {
-        print_asked(rt, asked)?;
+// An order's kind and target, then its constant or the two cells that it reads.
+fn print_order(rt: &impl Print, order: Order) -> io::Result<()> {
+    let Parts { kind, d, k, a, b } = Parts::from(order);
+    match order {
+        Order::Constant { .. } => println!(rt; "order {kind} {d} {k}"),
+        _ => println!(rt; "order {kind} {d} {a} {b}"),
     }
-    Ok(())
 }
 
-// The plan's total: n and m.
+// ---- The plan's total: n and m
+
 fn call_total(rt: &impl Print, input: &[u8]) -> Result<(), Failure> {
     let [] = slices::<0>(input, 3).ok_or(Failure::Unreadable)?;
     Ok(print_counted(rt, Plan::total(number(input, 1), number(input, 2)))?)
 }
 
-// Writing the plan: n, m and a position; bytes.
+// ---- Writing the plan: n, m and a position; bytes
+
 fn call_write(rt: &impl Print, input: &[u8]) -> Result<(), Failure> {
-    let ([], first) = slices_and_bytes::<0>(input, 4).ok_or(Failure::Unreadable)?;
-    let mut slice = room();
-    let slice = lend(input, first, &mut slice);
-    let answer = write_plan(number(input, 1), number(input, 2), number(input, 3), slice);
-    let written = answer.unwrap_or(Written {
+    let ([], slice) = slices_and_bytes::<0>(input, 4).ok_or(Failure::Unreadable)?;
+    let mut bytes = room();
+    let slice = lend(input, slice, &mut bytes);
+    print_written(
+        rt,
+        write_plan(number(input, 1), number(input, 2), number(input, 3), slice),
+    )?;
+    Ok(print_numbers(rt, b"slice", slice)?)
+}
+
+// The verdict and the counts, 0 on a refusal.
+fn print_written(rt: &impl Print, written: Result<Written, Reason>) -> io::Result<()> {
+    print_verdict(rt, written.map(|_| ()))?;
+    let written = written.unwrap_or(Written {
         bytes: 0,
         orders: 0,
         next: 0,
     });
-    print_verdict(rt, answer.map(|_| ()))?;
     print_number(rt, b"bytes", written.bytes)?;
     print_number(rt, b"orders", written.orders)?;
-    print_number(rt, b"next", written.next)?;
-    Ok(print_numbers(rt, b"slice", slice)?)
+    print_number(rt, b"next", written.next)
 }
 
-// A holder's view: n, m and the holder; table, results, view.
+// ---- A holder's view: n, m and the holder; table, results, view
+
 fn call_view(rt: &impl Print, input: &[u8]) -> Result<(), Failure> {
-    let [first, second, third] = slices::<3>(input, 4).ok_or(Failure::Unreadable)?;
-    let mut table = room();
-    let mut results = room();
-    let mut out = room();
-    let table = lend(input, first, &mut table);
-    let results = lend(input, second, &mut results);
-    let out = lend(input, third, &mut out);
-    print_verdict(
-        rt,
-        view(
-            number(input, 1),
-            number(input, 2),
-            table,
-            word(input, 3),
-            results,
-            out,
-        ),
-    )?;
+    let [table, results, out] = slices::<3>(input, 4).ok_or(Failure::Unreadable)?;
+    let mut holders = room();
+    let table = lend(input, table, &mut holders);
+    let mut numbers = room();
+    let results = lend(input, results, &mut numbers);
+    let mut shown = room();
+    let out = lend(input, out, &mut shown);
+    let verdict = view(
+        number(input, 1),
+        number(input, 2),
+        table,
+        word(input, 3),
+        results,
+        out,
+    );
+    print_verdict(rt, verdict)?;
     Ok(print_numbers(rt, b"view", out)?)
 }
 
-// Checking: n and m; bids, capacities, amounts, flows.
+// ---- Checking: n and m; bids, capacities, amounts, flows
+
 fn call_check(rt: &impl Print, input: &[u8]) -> Result<(), Failure> {
-    let [first, second, third, fourth] = slices::<4>(input, 3).ok_or(Failure::Unreadable)?;
-    let mut tables = BookRoom::new();
-    let book = tables.lend(input, first, second);
-    let mut amounts = room();
-    let mut flows = room();
-    let amounts = lend(input, third, &mut amounts);
-    let flows = lend(input, fourth, &mut flows);
-    let checked = check(&book, &Sent { amounts, flows });
+    let [bids, capacities, amounts, flows] = slices::<4>(input, 3).ok_or(Failure::Unreadable)?;
+    let mut tables = Tables::new();
+    let book = tables.lend(input, bids, capacities);
+    let mut sent_amounts = room();
+    let mut sent_flows = room();
+    let sent = Sent {
+        amounts: lend(input, amounts, &mut sent_amounts),
+        flows: lend(input, flows, &mut sent_flows),
+    };
+    let checked = check(&book, &sent);
     print_verdict(rt, checked.map(|_| ()))?;
-    Ok(print_number(rt, b"yes", checked.unwrap_or(false) as usize)?)
+    Ok(print_number(rt, b"yes", usize::from(checked.unwrap_or(false)))?)
 }

@@ -1,8 +1,8 @@
 // Input, read into a buffer that is lent.
 #![tactic(auto)]
 
-ghost use Rattle.std.specs.Prelude.{◌≡◌, length, MatchResult};
-ghost use Rattle.gathering.specs.Counts.{IsPrefixLen, clamp_len};
+ghost use Rattle.std.specs.Prelude.{MatchResult};
+ghost use Rattle.gathering.specs.Counts.{IsPrefixLen};
 
 use std::io::Read;
 
@@ -29,15 +29,4 @@ pub fn gather<R: Read>(input: &mut R, bytes: &mut [u8]) -> Result<usize, Part>
         Ok(0) => Ok(size),
         _ => Err(Part { size }),
     }
-}
-
-// What a read answered, as a number of the piece's bytes.
-pub fn count(got: isize, piece: &[u8]) -> usize
-    ensures in_bounds { IsPrefixLen result piece.now }
-    ensures value { result ≡ clamp_len got (length piece.now) }
-{
-    if got <= 0 {
-        return 0;
-    }
-    piece.len().min(got as usize)
 }

@@ -29,7 +29,7 @@ fn run_and_print(rt: &impl Print, bytes: &[u8]) -> io::Result<()> {
 }
 
 // Reads a plan into the bytes lent, and runs it.
-fn replay(rt: &HostRuntime, bytes: &mut [u8; Replay::ROOM]) -> io::Result<()> {
+fn read_and_run(rt: &HostRuntime, bytes: &mut [u8; Replay::ROOM]) -> io::Result<()> {
     match gather(&mut rt.stdin(), bytes) {
         Ok(size) => run_and_print(rt, &bytes[..size]),
         Err(_) => rt.println("not read whole"),
@@ -38,5 +38,5 @@ fn replay(rt: &HostRuntime, bytes: &mut [u8; Replay::ROOM]) -> io::Result<()> {
 
 fn main(rt: HostRuntime) -> io::Result<()> {
     let mut bytes = [0u8; Replay::ROOM];
-    replay(&rt, &mut bytes)
+    read_and_run(&rt, &mut bytes)
 }
