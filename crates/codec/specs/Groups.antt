@@ -1,14 +1,6 @@
 -- A number's groups of seven bits, over the number of groups: what is written is read (`groups_read_back`), and only the shortest form is read (`only_shortest_groups`).
-use Rattle.std.specs.Prelude.{ℕ, zero, suc, ◌+◌, ◌*◌, ◌/◌, ◌%◌, ◌<◌, ◌≤◌, ◌≡◌, Bool, cond, drop, get_or}
-use Rattle.std.proofs.Math.Path.{refl, ap, ap₂}
-use Rattle.std.proofs.Common.{◌∙◌, true≢false}
-use Rattle.std.proofs.Math.Bool.{true, false}
-use mathlib.Core.List.{List, [], ◌∷◌, ◌++◌}
-use native.Mathlib.Omega.{arith}
-use Rattle.std.proofs.Math.Numerals.{add-one}
-use Rattle.std.proofs.Math.Dec.{ltb}
-use Rattle.std.proofs.Math.ListN.{length}
-use borrow.Author.Tests.{lt-ltb, le-ltb, ltb-true, ltb-false}
+use Rattle.std.specs.Prelude.{ℕ, zero, suc, ◌+◌, ◌*◌, ◌/◌, ◌%◌, ◌<◌, ◌≤◌, ◌≡◌, Bool, cond, drop, get_or, refl, true, false, List, [], ◌∷◌, ◌++◌, ltb, length}
+use Rattle.std.proofs.Common.{ap, ap₂, ◌∙◌, true≢false, arith, add-one, lt-ltb, le-ltb, ltb-true, ltb-false}
 use Rattle.definitions.specs.Bytes.{groups, Number, short, bad, number, last_group, more_groups, read_groups, group_size}
 use Rattle.laws.specs.Tests.{Lt?, less, more, lt?}
 

@@ -1,11 +1,6 @@
 -- An order's bytes are accepted only if it is one of the machine's (`accepted_written`).
-use Prim.Native.Nat.{ℕ, ◌+◌, ◌<◌, ◌≤◌}
-use Rattle.std.specs.Prelude.{◌≡◌, Bool, drop}
-use Rattle.std.proofs.Math.Path.{sym}
-use Rattle.std.proofs.Common.{ap, ◌∙◌, le-ltb, ne_eqb}
-use mathlib.Core.List.{List, ◌++◌, append_assoc}
-use native.Mathlib.Omega.{arith}
-use Rattle.std.proofs.Math.ListN.{length}
+use Rattle.std.specs.Prelude.{ℕ, ◌+◌, ◌<◌, ◌≤◌, ◌≡◌, Bool, drop, List, ◌++◌, length}
+use Rattle.std.proofs.Common.{sym, ap, ◌∙◌, le-ltb, ne_eqb, append_assoc, arith}
 use Rattle.definitions.specs.declared.Order.{Order}
 use Rattle.definitions.specs.declared.Order.TheVariants.{Constant, Sum, Difference, Product, Less, Equal}
 use Rattle.definitions.specs.Limits.{cell_count, modulus}

@@ -10,6 +10,7 @@ use judging::{judge_cells, judge_results};
 use residues::reading;
 
 // Counts, lengths, then the cells: 1, 2, 3, 15.
+#[tactic(auto, unfolding(definitions::specs::Calls::open_refusal))]
 fn judge_opening(n: usize, m: usize, sheet: &[u32], results: usize) -> Result<Counts, Reason>
     ensures refusal { refusal_of result ≡ open_refusal n m sheet.now results }
     ensures counts { IfOk result (λ counts. (counts.n ≡ n) × (counts.m ≡ m)) }
@@ -23,6 +24,7 @@ fn judge_opening(n: usize, m: usize, sheet: &[u32], results: usize) -> Result<Co
 }
 
 // Opens the results of a run for n bids and m pools, or refuses and leaves `out` as lent.
+#[tactic(auto, unfolding(definitions::specs::Calls::open_slice))]
 pub fn open(n: usize, m: usize, sheet: &[u32], out: &mut [i32]) -> Verdict
     ensures refusal { refusal_of result ≡ open_refusal n m sheet.now (length out.old) }
     ensures results { out.new ≡ open_slice n m sheet.now out.old }

@@ -1,5 +1,4 @@
 -- What a text is by the words that are left of it, stage by stage. Its theorems: one word more (`word_taken`), and the end of the text (`text_ended`).
-use Prim.{Unit, tt}
 use Rattle.std.specs.Prelude.{ℕ, ◌+◌, ◌*◌, ◌≤◌, ◌<◌, ◌≡◌, refl, Bool, true, false, List, [], ◌∷◌, ◌++◌, ltb, eqb, length, take, drop, set, ℤ, pos, negsuc, None, Ok, Err}
 use Rattle.std.specs.declared.result.Result.{Result}
 use Rattle.std.proofs.Common.{sym, ap, ◌∙◌, append-nil, arith, add-one, mul-le-mul_right, length-append, length-set, length-take-le, take-take, take-add, drop_at, take-suc-set, ltb-true, ltb-false, eqb-true, lt-ltb, le-ltb, ne_eqb}

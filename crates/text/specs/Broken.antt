@@ -1,5 +1,4 @@
 -- A text that breaks off. Last theorem: it is unreadable, or refused by its counts, and never a book to clear (`broken_turned_away`).
-use Prim.{Unit, tt}
 use Rattle.std.specs.Prelude.{ℕ, ◌+◌, ◌*◌, ◌≡◌, refl, Bool, true, false, cond, ◌||◌, ◌⊎◌, List, [], ◌∷◌, ◌++◌, ltb, eqb, length, take, drop, ℤ, pos, negsuc, Ok, Err}
 use Rattle.std.proofs.Common.{subst, inl, inr, arith}
 use Rattle.definitions.specs.Limits.{bid_limit, pool_limit, bid_numbers}

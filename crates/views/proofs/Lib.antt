@@ -1,3 +1,3 @@
--- Laws that the proofs cite.
+-- What the proofs cite, and the theorem on equal views.
 pub mod Search
 pub mod SameView

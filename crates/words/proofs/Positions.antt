@@ -1,8 +1,6 @@
 -- Words by position: where one is 0, where a slice ends, which words are bytes.
-use Rattle.std.proofs.Common.{ℕ, zero, suc, ◌+◌, ◌*◌, ◌-◌, ◌<◌, ◌≤◌, ◌≡◌, refl, sym, ap, ◌∙◌, List, [], length, Bool, true, false, Some, None, is_some, lt-ltb, le-ltb, le-leb, add-one, min, get_or, drop, arith, w32}
+use Rattle.std.proofs.Common.{ℕ, zero, suc, ◌+◌, ◌*◌, ◌-◌, ◌<◌, ◌≤◌, ◌≡◌, refl, sym, ap, ◌∙◌, List, [], length, Bool, true, false, Some, None, is_some, lt-ltb, le-ltb, leb, add-one, min, get_or, drop, arith, w32}
 use Rattle.std.proofs.lemmas.List.{get_or-take, get_or-drop}
-use Rattle.std.proofs.lemmas.Bool.{lt-leb}
-use Rattle.std.proofs.lemmas.Option.{cond_some}
 use Rattle.std.specs.Bool.{then_some}
 use Rattle.std.specs.Int.{from_le_bytes}
 use Rattle.std.specs.Simd.{first_chunks}
@@ -43,20 +41,18 @@ pub missing_length : (input : List ℕ) (at : ℕ) → word_count input ≤ at �
 unfolding after_slice
 missing_length input at h = rw (le-ltb at (word_count input) h) refl
 
-pub missing_entries : (input : List ℕ) (at : ℕ) → at < word_count input → word_count input < at + 1 + word_at input at → None ≡ after_slice input at
+pub slice_here : (input : List ℕ) (at end : ℕ) → at < word_count input → end ≡ at + 1 + word_at input at → then_some (leb end (word_count input)) end ≡ after_slice input at
 unfolding after_slice
-missing_entries input at h k = rw (lt-ltb at (word_count input) h, lt-leb (at + 1 + word_at input at) (word_count input) k) refl
+slice_here input at end h e = rw (e, lt-ltb at (word_count input) h) refl
 
-pub slice_within : (input : List ℕ) (at end : ℕ) → at < word_count input → end ≡ at + 1 + word_at input at → end ≤ word_count input → Some end ≡ after_slice input at
-unfolding after_slice
-slice_within input at end h e k = rw (e, lt-ltb at (word_count input) h, le-leb (at + 1 + word_at input at) (word_count input) (omega arith)) refl
+given_then : (test : Bool) (given end : ℕ) → Some end ≡ then_some test given → end ≡ given
+given_then true given end e = cc
+given_then false given end e = cc
 
 -- a slice ends behind its length
 pub slice_end : (input : List ℕ) (at end : ℕ) → Some end ≡ after_slice input at → at < end
 unfolding after_slice
-slice_end input at end e =
-    let p = cond_some _ _ _ (sym e) in
-    omega (arith, p.1)
+slice_end input at end e = omega (arith, given_then _ _ _ e)
 
 -- one slice more
 pub one_slice : (input : List ℕ) (at i end : ℕ) → after_slices input at i ≡ Some end → after_slices input at (i + 1) ≡ after_slice input end
@@ -95,13 +91,9 @@ pub bytes_missing : (input : List ℕ) (at : ℕ) → None ≡ after_slice input
 unfolding after_bytes
 bytes_missing input at e = rw (← e) refl
 
-pub bytes_there : (input : List ℕ) (at end : ℕ) → Some end ≡ after_slice input at → true ≡ are_bytes input (at + 1) (end - (at + 1)) → Some end ≡ after_bytes input at
+pub bytes_here : (input : List ℕ) (at end : ℕ) → Some end ≡ after_slice input at → then_some (are_bytes input (at + 1) (end - (at + 1))) end ≡ after_bytes input at
 unfolding after_bytes
-bytes_there input at end e b = rw (← e, ← b) refl
-
-pub bytes_broken : (input : List ℕ) (at end : ℕ) → Some end ≡ after_slice input at → false ≡ are_bytes input (at + 1) (end - (at + 1)) → None ≡ after_bytes input at
-unfolding after_bytes
-bytes_broken input at end e b = rw (← e, ← b) refl
+bytes_here input at end e = rw (← e) refl
 
 -- ---- Which input is that of a call
 

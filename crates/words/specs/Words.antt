@@ -1,5 +1,6 @@
 -- The input as words of four bytes, the slices among them, each behind its length, and which input is that of a call.
 use Rattle.std.specs.Prelude.{ℕ, zero, suc, ◌+◌, ◌*◌, ◌-◌, ◌/◌, ◌%◌, min, Bool, true, false, cond, ◌&&◌, List, eqb, leb, ltb, ℤ, pos, negsuc, length, get_or, Option, Some, None}
+use Rattle.std.specs.Bool.{then_some}
 use Rattle.std.specs.Option.{option_and_then}
 
 -- how many words the program has room for
@@ -33,7 +34,7 @@ slice_length input at = min (word_at input at) word_room
 
 -- the position behind a slice; none where words are missing
 unfoldable pub after_slice : (input : List ℕ) (at : ℕ) → Option ℕ
-after_slice input at = cond (ltb at (word_count input) && leb (at + 1 + word_at input at) (word_count input)) (Some (at + 1 + word_at input at)) None
+after_slice input at = then_some (ltb at (word_count input) && leb (at + 1 + word_at input at) (word_count input)) (at + 1 + word_at input at)
 
 -- behind some slices in a row
 unfoldable pub after_slices : (input : List ℕ) (at slices : ℕ) → Option ℕ
@@ -47,7 +48,7 @@ are_bytes input from (suc count) = ltb (word_at input from) 256 && are_bytes inp
 
 -- behind a slice of bytes; none where words are missing or one is no byte
 unfoldable pub after_bytes : (input : List ℕ) (at : ℕ) → Option ℕ
-after_bytes input at = option_and_then (λ end. cond (are_bytes input (at + 1) (end - (at + 1))) (Some end) None) (after_slice input at)
+after_bytes input at = option_and_then (λ end. then_some (are_bytes input (at + 1) (end - (at + 1))) end) (after_slice input at)
 
 -- whole words, of which a position is the end
 abbrev pub ends_at : (input : List ℕ) (at : ℕ) → Bool

@@ -12,17 +12,20 @@ impl Words {
     // How many bytes a word has.
     const SIZE: usize = 4;
 
+    // The greatest byte, as a word.
+    const BYTE: u32 = 255;
+
     // How many words there is room for, and their bytes.
     pub const ROOM: usize = 8_192;
 
     pub const BYTES: usize = Self::SIZE * Self::ROOM;
 }
 
-// Word k, and 0 behind the last.
+// Word k, and 0 behind the last, where nothing is read once the form of the input is known: so no caller has a word missing to think of.
 pub fn word(input: &[u8], k: usize) -> u32
     ensures { result ≡ word_at input.now k }
 {
-    let (words, _) = input.as_chunks();
+    let (words, _) = input.as_chunks::<{ Words::SIZE }>();
     match words.get(k) {
         Some(bytes) => u32::from_le_bytes(*bytes),
         None => 0,
@@ -54,10 +57,7 @@ pub fn after_slice(input: &[u8], at: usize) -> Option<usize>
         return None;
     }
     let end = at + 1 + word(input, at) as usize;
-    if count < end {
-        return None;
-    }
-    Some(end)
+    (end <= count).then_some(end)
 }
 
 // Where each of some slices in a row begins, and the position behind them; none if words are missing.
@@ -79,7 +79,7 @@ fn are_bytes(input: &[u8], from: usize, to: usize) -> bool
     ensures { result ≡ are_bytes input.now from (to - from) }
 {
     for k in from..to {
-        if 255 < word(input, k) {
+        if Words::BYTE < word(input, k) {
             return false;
         }
     }
@@ -91,11 +91,7 @@ fn after_bytes(input: &[u8], at: usize) -> Option<usize>
     ensures { result ≡ after_bytes input.now at }
 {
     let end = after_slice(input, at)?;
-    if are_bytes(input, at + 1, end) {
-        Some(end)
-    } else {
-        None
-    }
+    are_bytes(input, at + 1, end).then_some(end)
 }
 
 // Whether the input is whole words, of which a position is the end.
@@ -175,7 +171,7 @@ pub fn slice_length(input: &[u8], at: usize) -> usize
     number(input, at).min(Words::ROOM)
 }
 
-// An entry of the slice at a position.
+// An entry of the slice at a position, and 0 behind the last word, as `word` has it.
 fn entry(input: &[u8], at: usize, i: usize) -> u32
     ensures { result ≡ entry_at input.now at i }
 {

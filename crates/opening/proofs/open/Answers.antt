@@ -1,22 +1,14 @@
--- `open` meets its contract: a refusal copies nothing, and each turn copies one reading of an accepted sheet.
+-- `open` meets its contract: the result cells lie on the sheet, and each turn copies one reading.
 use Rattle.std.proofs.Common.{ℕ, ◌+◌, ◌≤◌, ◌≡◌, refl, sym, ap₂, ◌∙◌, List, ℤ, pos, length, arith, w32}
 use Rattle.definitions.specs.Sheet.{first_result}
 use Rattle.definitions.specs.Answers.{none}
-use Rattle.definitions.specs.Calls.{open_refusal, opened_results, open_slice}
-use Rattle.laws.specs.Refusal.{unless_refused}
-use Rattle.laws.specs.Search.{turned_away}
+use Rattle.definitions.specs.Calls.{open_refusal, open_slice}
 use Rattle.laws.specs.SignedTests.{back}
 use Rattle.laws.specs.Write.{writing_turn, writing_ends}
 use Rattle.residues.specs.Residues.{read_residue}
 use Rattle.opening.specs.Openable.{openable, results_fit}
 use Rattle.opening.specs.Readings.{readings, readings_length, reading_at, opened}
 use Rattle.opening.proofs.open.Goals as goal
-
-pub returns-in_err-counts-clause-results : goal.returns-in_err-counts-clause-results
-unfolding open_slice
-returns-in_err-counts-clause-results c =
-    let a = c.args in
-    sym (unless_refused _ (opened_results a.n a.m a.sheet.now) a.out.now (turned_away c.in_err-counts.field-0.0 c.in_err-counts.ensures.refusal))
 
 -- the readings of as many cells as `out` has places, from the first result on, are to be copied
 module _ (n m : ℕ) (sheet : List ℕ) (out : List ℤ) (passed : none ≡ open_refusal n m sheet (length out)) {N M first : ℕ} (same : (N ≡ n) × (M ≡ m)) (found : first ≡ first_result N M) where

@@ -1,19 +1,10 @@
--- `seal` meets its contract: a refusal leaves the sheet as lent, and the tables of an accepted book have room in it.
+-- `seal` meets its contract: the tables of an accepted book have room in it.
 use Rattle.std.proofs.Common.{refl, sym, ◌∙◌, length, arith, mul-le-mul_right}
 use Rattle.definitions.specs.Limits.{pool_limit}
 use Rattle.definitions.specs.Book.{book_of}
-use Rattle.definitions.specs.Sheet.{sealed_sheet}
 use Rattle.definitions.specs.Calls.{seal_sheet}
-use Rattle.laws.specs.Refusal.{unless_refused}
-use Rattle.laws.specs.Search.{turned_away}
 use Rattle.laws.specs.Sizes.{accepted_sizes}
 use Rattle.sealing.proofs.seal.Goals as goal
-
-pub returns-in_err-counts-clause-cells : goal.returns-in_err-counts-clause-cells
-unfolding seal_sheet
-returns-in_err-counts-clause-cells c =
-    let a = c.args in
-    sym (unless_refused _ (sealed_sheet (book_of a.book.now)) a.sheet.now (turned_away c.in_err-counts.field-0.0 c.in_err-counts.ensures.refusal))
 
 pub write_book-requires : goal.write_book-requires
 write_book-requires c =
