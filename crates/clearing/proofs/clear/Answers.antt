@@ -1,11 +1,8 @@
 -- `clear` meets its contract: what sealing says decides, and the plan runs from the sealed sheet.
-use Rattle.std.proofs.Common.{ℕ, ◌≡◌, sym, ap, ap₂, subst, ◌∙◌, false, List, length, w64}
+use Rattle.std.proofs.Common.{ℕ, ◌≡◌, sym, ap₂, ◌∙◌, false, length, w64}
 use Rattle.std.proofs.lemmas.Result.{err_from_is_err_and}
-use Rattle.definitions.specs.Answers.{none, is_none}
-use Rattle.definitions.specs.Book.{Book, book, book_of}
-use Rattle.definitions.specs.Sheet.{amount_cell}
-use Rattle.definitions.specs.Clearing.{welfare}
-use Rattle.definitions.specs.Machine.{cell}
+use Rattle.definitions.specs.Answers.{is_none}
+use Rattle.definitions.specs.Book.{Book, book_of}
 use Rattle.definitions.specs.Calls.{seal_refusal}
 use Rattle.definitions.specs.Outcome.{plan_run}
 use Rattle.definitions.specs.Plan.{total}
@@ -14,7 +11,6 @@ use Rattle.laws.specs.Search.{turned_away}
 use Rattle.plan.specs.Plan.{plan}
 use Rattle.plan.proofs.Asking.{total_accepted}
 use Rattle.orders.specs.Runs.{stepped_plan}
-use Rattle.clearing.specs.Amounts.{AmountsWithin}
 use Rattle.clearing.proofs.Sealing.{refused_count, refused_welfare, refused_sheet, counts_pass, count_given, welfare_given, sheet_given, amounts_within_lem, run_left}
 use Rattle.clearing.proofs.clear.Goals as goal
 use Rattle.clearing.proofs.clear.Goals.{After-from_residual, After-run_plan}
