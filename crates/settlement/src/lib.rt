@@ -41,7 +41,7 @@ fn write_why(why: Unsettled, out: &mut [u8]) -> usize
     }
 }
 
-// Opens the results that a sheet holds and lists them with the welfare.
+// Opens the results that a sheet holds, one that opening does not refuse, and lists them with the welfare.
 fn list_sheet(counts: Counts, welfare: i64, sheet: &[u32], out: &mut [u8]) -> usize
     requires { open_refusal counts.n counts.m sheet.now (result_count counts.n counts.m) ≡ none }
     ensures size { result ≡ text_size (leb text_room (length out.old)) (listing counts.n counts.m (opened_results counts.n counts.m sheet.now) welfare) }
@@ -49,9 +49,7 @@ fn list_sheet(counts: Counts, welfare: i64, sheet: &[u32], out: &mut [u8]) -> us
 {
     let mut numbers = [0; RESULTS];
     let results = &mut numbers[..counts.results()];
-    if let Err(reason) = open(counts.n, counts.m, sheet, results) {
-        return write_why(Unsettled::Refused(reason), out);
-    }
+    open(counts.n, counts.m, sheet, results).unwrap();
     write_listing(counts.n, counts.m, results, welfare, out)
 }
 
