@@ -2,9 +2,9 @@
 #![tactic(auto)]
 
 ghost use Rattle.std.specs.Prelude.{◌≡◌, cond, pos, nat_abs, Ok, Err};
-ghost use Rattle.stages.specs.declared.Unsettled.TheVariants.{Unreadable, Refused};
-ghost use Rattle.stages.specs.Counting.{taken_by, counted_by, begun, called_for, place_for, place_within, stored_at, stage_input, completed};
 ghost use Rattle.std.specs.Int.Signed.{lt_z};
+ghost use Rattle.stages.specs.declared.Unsettled.TheVariants.{Unreadable, Refused};
+ghost use Rattle.stages.specs.Counting.{taken_by, counted_by, called_for, place_for, place_within, stored_at, stage_input};
 
 use crate::words::{Ended, NoNumber};
 use definitions::{Limits, Reason};
@@ -59,14 +59,6 @@ fn call_for(n: usize, m: usize) -> Result<usize, Reason>
     Ok(counts.bid_numbers() + counts.lines())
 }
 
-// Both counts are read: 1 and 2 are answered before the rest is looked at.
-fn begin(n: usize, m: usize) -> Progress
-    ensures { result ≡ begun n m (called_for n m) }
-{
-    call_for(n, m)?;
-    Ok(Stage::Tables { n, m, read: 0 })
-}
-
 // Where the next number of the tables is stored: nowhere if they have no more.
 fn place_within(n: usize, m: usize, read: usize) -> Option<usize>
     ensures { result ≡ place_within read (called_for n m) }
@@ -90,7 +82,12 @@ fn count(stage: Stage, z: i32) -> Progress
 {
     match stage {
         Stage::First => Ok(Stage::Second { n: count_of(z)? }),
-        Stage::Second { n } => begin(n, count_of(z)?),
+        // 1 and 2 are answered before the rest is looked at.
+        Stage::Second { n } => {
+            let m = count_of(z)?;
+            judge_counts(n, m)?;
+            Ok(Stage::Tables { n, m, read: 0 })
+        }
         Stage::Tables { n, m, read } => match place_within(n, m, read) {
             Some(at) => Ok(Stage::Tables { n, m, read: at + 1 }),
             None => Err(Unsettled::Unreadable),
@@ -132,22 +129,12 @@ pub fn store(ended: Ended, at: Option<usize>, numbers: &mut [i32; NUMBERS])
     }
 }
 
-// All numbers called for are read, or not.
-fn complete(n: usize, m: usize, read: usize) -> Input
-    ensures { result ≡ completed n m read (called_for n m) }
-{
-    match call_for(n, m) {
-        Ok(called) if read == called => Ok(Tables { n, m }),
-        _ => Err(Unsettled::Unreadable),
-    }
-}
-
-// What the text is if it ends in this stage.
+// What the text is if it ends in this stage: a book if all numbers called for are read.
 pub fn answer(stage: Progress) -> Input
     ensures { result ≡ stage_input stage }
 {
     match stage? {
-        Stage::Tables { n, m, read } => complete(n, m, read),
-        Stage::First | Stage::Second { .. } => Err(Unsettled::Unreadable),
+        Stage::Tables { n, m, read } if call_for(n, m) == Ok(read) => Ok(Tables { n, m }),
+        _ => Err(Unsettled::Unreadable),
     }
 }

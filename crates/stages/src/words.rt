@@ -3,6 +3,13 @@ ghost use Rattle.std.specs.Prelude.{◌≡◌};
 ghost use Rattle.definitions.specs.Settle.{blank};
 ghost use Rattle.stages.specs.Words.{no_digits, digit_after, signed_of, grown_by, ended_of};
 
+// A blank stands between numbers.
+pub fn is_blank(byte: u8) -> bool
+    ensures { result ≡ blank byte }
+{
+    matches!(byte, b' ' | b'\n')
+}
+
 // The word being read: nothing yet, a minus alone, digits, or no number whatever follows.
 #[derive(Clone, Copy)]
 pub enum Word {
@@ -12,25 +19,38 @@ pub enum Word {
     NoNumber,
 }
 
+impl Word {
+    // The word with one byte more, which is no blank.
+    pub fn grow(self, byte: u8) -> Word
+        ensures { result ≡ grown_by self byte }
+    {
+        match self {
+            Word::Empty if byte == b'-' => Word::Minus,
+            Word::Empty => Digits::none(false).grow(byte),
+            Word::Minus => Digits::none(true).grow(byte),
+            Word::Digits(digits) => digits.grow(byte),
+            Word::NoNumber => Word::NoNumber,
+        }
+    }
+
+    // What the word is as it stands, once it has ended.
+    pub fn end(self) -> Ended
+        ensures { result ≡ ended_of self }
+    {
+        match self {
+            Word::Empty => Ok(None),
+            Word::Digits(digits) => digits.end(),
+            Word::Minus => Err(NoNumber {}),
+            Word::NoNumber => Err(NoNumber {}),
+        }
+    }
+}
+
 // Digits by their sign and their value.
 #[derive(Clone, Copy)]
 pub struct Digits {
     negative: bool,
     value: u32,
-}
-
-// A word has ended that is no number within signed 32 bits.
-#[derive(Clone, Copy, Debug, PartialEq, Eq)]
-pub struct NoNumber {}
-
-// What a word is once it has ended: its number, or none where it has no byte.
-pub type Ended = Result<Option<i32>, NoNumber>;
-
-// A blank stands between numbers.
-pub fn is_blank(byte: u8) -> bool
-    ensures { result ≡ blank byte }
-{
-    matches!(byte, b' ' | b'\n')
 }
 
 impl Digits {
@@ -71,27 +91,9 @@ impl Digits {
     }
 }
 
-// The word with one byte more, which is no blank.
-pub fn grow(word: Word, byte: u8) -> Word
-    ensures { result ≡ grown_by word byte }
-{
-    match word {
-        Word::Empty if byte == b'-' => Word::Minus,
-        Word::Empty => Digits::none(false).grow(byte),
-        Word::Minus => Digits::none(true).grow(byte),
-        Word::Digits(digits) => digits.grow(byte),
-        Word::NoNumber => Word::NoNumber,
-    }
-}
+// A word has ended that is no number within signed 32 bits.
+#[derive(Clone, Copy, Debug, PartialEq, Eq)]
+pub struct NoNumber {}
 
-// What the word is as it stands, once it has ended.
-pub fn end(word: Word) -> Ended
-    ensures { result ≡ ended_of word }
-{
-    match word {
-        Word::Empty => Ok(None),
-        Word::Digits(digits) => digits.end(),
-        Word::Minus => Err(NoNumber {}),
-        Word::NoNumber => Err(NoNumber {}),
-    }
-}
+// What a word is once it has ended: its number, or none where it has no byte.
+pub type Ended = Result<Option<i32>, NoNumber>;

@@ -8,7 +8,7 @@ ghost use Rattle.stages.specs.Counting.{stage_input, input_for};
 ghost use Rattle.text.specs.Reading.{read_so_far, start_reader, fed, failed_read, after_byte, word_ended};
 ghost use Rattle.text.specs.Texts.{none_stored, whole_read};
 
-use stages::words::{Word, end, grow, is_blank};
+use stages::words::{Word, is_blank};
 use stages::{Input, Progress, Stage, answer, place, store, take_word};
 
 // What was read of a text: the word that is not yet ended, and the stage that the words before it led to. Only their types are public, so that
@@ -38,7 +38,7 @@ impl Reader {
         ensures value { result ≡ (word_ended (read_so_far self numbers.old)).reader }
         ensures numbers_after { numbers.new ≡ (word_ended (read_so_far self numbers.old)).numbers }
     {
-        let ended = end(self.word);
+        let ended = self.word.end();
         store(ended, place(self.stage), numbers);
         Reader {
             word: Word::Empty,
@@ -58,7 +58,7 @@ impl Reader {
             return self.end_word(numbers);
         }
         Reader {
-            word: grow(self.word, byte),
+            word: self.word.grow(byte),
             ..self
         }
     }
