@@ -1,3 +1,3 @@
 -- What the proofs cite, and the theorem on equal views.
-pub mod Search
+pub mod Viewing
 pub mod SameView

@@ -54,9 +54,9 @@ module _ (table : List ℕ) (holder : ℕ) (results : List ℤ) (k : ℕ) where
 -- ---- a table gone through entry by entry: at entry i the holder's own amount stays, another's becomes 0
 
 module _ (holder : ℕ) where
-  pub view_begins : (table : List ℕ) (results : List ℤ) → view_of (take 0 table) holder results ≡ results
+  pub view_begins : (results : List ℤ) → view_of [] holder results ≡ results
   unfolding view_of
-  view_begins table results = refl
+  view_begins results = refl
 
   stays : (table : List ℕ) (results : List ℤ) (i : ℕ) → i < length table → get_or table i 0 ≡ holder → view_of (take i table) holder results ≡ view_of (take (suc i) table) holder results
   unfolding view_of

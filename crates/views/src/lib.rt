@@ -3,24 +3,13 @@
 
 ghost use Rattle.std.specs.Prelude.{◌≡◌, length};
 ghost use Rattle.definitions.specs.Answers.{refusal_of};
-ghost use Rattle.definitions.specs.Views.{holder_refusal, view_refusal, view_slice};
+ghost use Rattle.definitions.specs.Views.{view_refusal, view_slice};
 
 use definitions::{Reason, Verdict};
 use judging::judge_results;
 
-// A holder with no bid in the table: 16.
-#[tactic(auto, using(crate::proofs::Search::among_found))]
-fn judge_holder(table: &[u32], holder: u32) -> Verdict
-    ensures { refusal_of result ≡ holder_refusal table.now holder }
-{
-    if !table.contains(&holder) {
-        return Err(Reason::Holder);
-    }
-    Ok(())
-}
-
 // Counts, the lengths of all three slices, then the holder: 1, 2, 3, 16.
-#[tactic(auto, unfolding(definitions::specs::Views::view_refusal))]
+#[tactic(auto, using(crate::proofs::Viewing::among_found), unfolding(definitions::specs::Views::view_refusal))]
 fn judge_view(
     n: usize,
     m: usize,
@@ -35,12 +24,15 @@ fn judge_view(
     if table.len() != n || view != results {
         return Err(Reason::Length);
     }
-    judge_holder(table, holder)
+    if !table.contains(&holder) {
+        return Err(Reason::Holder);
+    }
+    Ok(())
 }
 
 // Makes the view of the opened results of n bids and m pools that a holder is shown: every number, but 0 for the amount of another holder's bid.
 // Or refuses and leaves `out` as lent.
-#[tactic(auto, unfolding(definitions::specs::Views::view_slice))]
+#[tactic(auto, using(crate::proofs::Viewing::viewing), unfolding(definitions::specs::Views::view_slice))]
 pub fn view(
     n: usize,
     m: usize,
