@@ -24,7 +24,7 @@ fn judge_opening(n: usize, m: usize, sheet: &[u32], results: usize) -> Result<Co
 }
 
 // Opens the results of a run for n bids and m pools, or refuses and leaves `out` as lent.
-#[tactic(auto, unfolding(definitions::specs::Calls::open_slice))]
+#[tactic(auto, using(crate::specs::Openable::results_fit), unfolding(definitions::specs::Calls::open_slice))]
 pub fn open(n: usize, m: usize, sheet: &[u32], out: &mut [i32]) -> Verdict
     ensures refusal { refusal_of result ≡ open_refusal n m sheet.now (length out.old) }
     ensures results { out.new ≡ open_slice n m sheet.now out.old }

@@ -38,7 +38,7 @@ fn write_book(book: &LentBook, sheet: &mut [u32])
 }
 
 // Seals a book, or refuses it and leaves the sheet as it was.
-#[tactic(auto, unfolding(definitions::specs::Calls::seal_sheet))]
+#[tactic(auto, using(crate::proofs::Sealable::sealable), unfolding(definitions::specs::Calls::seal_sheet))]
 pub fn seal(book: &LentBook, sheet: &mut [u32]) -> Result<Counts, Reason>
     ensures refusal { refusal_of result ≡ seal_refusal (book_of book.now) (length sheet.old) }
     ensures counts { IfOk result (λ counts. (counts.n ≡ book.now.n) × (counts.m ≡ book.now.m)) }

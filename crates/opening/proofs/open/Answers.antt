@@ -22,12 +22,6 @@ module _ (n m : ℕ) (sheet : List ℕ) (out : List ℤ) (passed : none ≡ open
   unfolding open_slice
   copied = opened n m sheet first (length out) begins (openable n m sheet (length out) (sym passed)).sizes.count ∙ rw (← passed) refl
 
-pub bounds-sheet-first : goal.bounds-sheet-first
-bounds-sheet-first c =
-    let a = c.args in
-    let k = c.in_ok-counts.ensures in
-    omega (arith, fits a.n a.m a.sheet.now a.out.now k.refusal k.counts c.first_result-first.ensures)
-
 pub loop-i-preserved : goal.loop-i-preserved
 loop-i-preserved c =
     let a = c.args in
