@@ -1,4 +1,4 @@
-// The welfare of accepted amounts: whether it can be summed, its sum bid by bid, and that of amounts sent as signed numbers.
+// The welfare of accepted amounts: whether it can be summed, and its sum bid by bid; the sizes of amounts sent as signed numbers.
 ghost use Rattle.std.specs.Prelude.{◌≡◌, map, ◌≤◌, length, nat_abs};
 ghost use Rattle.definitions.specs.Limits.{quantity_limit};
 ghost use Rattle.sums.specs.Welfare.{signed_value};
