@@ -1,4 +1,4 @@
--- Lines one after another: the next line joins those before it, and some of them are no longer than all.
+-- Lines one after another: the next line joins those before it (`lines_next`), and a loop that puts them on a page.
 use Rattle.std.specs.Prelude.{ℕ, ◌+◌, ◌≤◌, ◌≡◌, refl, List, ◌++◌, ℤ}
 use Rattle.std.proofs.Common.{SFits, to_z, of_z, w32, w64, ◌∙◌, ap, arith, add-one}
 use Rattle.definitions.specs.Arithmetic.{join_to}
