@@ -1,6 +1,5 @@
 -- One law for each answer of a read.
-use Rattle.std.proofs.Common.{◌≡◌, refl, ap, ℕ, zero, suc, List, take, Some}
-use Rattle.std.specs.declared.ops.ControlFlow.TheVariants.{Continue, Break}
+use Rattle.std.proofs.Common.{◌≡◌, refl, ℕ, zero, suc, List, take, Some}
 use Rattle.text.specs.Reading.{Reading, fed}
 use Rattle.settle.specs.Turns.{text_onward, turned}
 use Rattle.settle.proofs.take_turn.Goals as goal
@@ -13,17 +12,17 @@ onward s (suc k) piece some = refl
 
 pub returns-in-None : goal.returns-in-None
 unfolding turned
-returns-in-None c = rw c.in-None.is record { value = ap Break c.break_off.ensures.value; numbers_after = c.break_off.ensures.numbers_after }
+returns-in-None c = rw c.in-None.is record { value = cc; numbers_after = cc }
 
 pub returns-in-Some-eq0 : goal.returns-in-Some-eq0
 unfolding turned
 returns-in-Some-eq0 c =
     let i = c.in-Some-eq0 in
     let end : i.field-0 ≡ 0 = rw i.is at i.field-0-test in
-    rw (i.is, end) record { value = ap Break c.finish.ensures.value; numbers_after = c.finish.ensures.numbers_after }
+    rw (i.is, end) record { value = cc; numbers_after = cc }
 
 pub returns-in-Some : goal.returns-in-Some
 returns-in-Some c =
     let i = c.in-Some in
     let some : i.size ≡ 0 → ⊥ = (rw i.is at i.size-test).1 in
-    rw (i.is, onward _ i.size c.args.piece.now some) record { value = ap Continue c.feed.ensures.value; numbers_after = c.feed.ensures.numbers_after }
+    rw (i.is, onward _ i.size c.args.piece.now some) record { value = cc; numbers_after = cc }
