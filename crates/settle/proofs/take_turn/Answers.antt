@@ -1,6 +1,7 @@
 -- One law for each answer of a read.
-use Rattle.std.proofs.Common.{◌≡◌, refl, ℕ, zero, suc, List, take, Some}
-use Rattle.text.specs.Reading.{Reading, fed}
+use Rattle.std.proofs.Common.{◌≡◌, refl, ap, ◌∙◌, ℕ, zero, suc, List, take, Some, Continue}
+use Rattle.std.proofs.lemmas.List.{take_min}
+use Rattle.text.specs.Reading.{Reading, read_so_far, fed}
 use Rattle.settle.specs.Turns.{text_onward, turned}
 use Rattle.settle.proofs.take_turn.Goals as goal
 
@@ -25,4 +26,10 @@ pub returns-in-Some : goal.returns-in-Some
 returns-in-Some c =
     let i = c.in-Some in
     let some : i.size ≡ 0 → ⊥ = (rw i.is at i.size-test).1 in
-    rw (i.is, onward _ i.size c.args.piece.now some) record { value = cc; numbers_after = cc }
+    let piece = c.args.piece.now in
+    let cut : take c.min-end.result piece ≡ take i.size piece = ap (λ (k : ℕ). take k piece) c.min-end.ensures ∙ take_min i.size piece in
+    let s = read_so_far c.args.reader c.args.numbers.now in
+    rw (i.is, onward _ i.size piece some) record {
+      value = ap Continue (c.feed.ensures.value ∙ ap (λ (bytes : List ℕ). (fed s bytes).reader) cut);
+      numbers_after = c.feed.ensures.numbers_after ∙ ap (λ (bytes : List ℕ). (fed s bytes).numbers) cut;
+    }
