@@ -1,6 +1,6 @@
 // The calls: a function for each reads the form of its input, makes the call and prints what it gives and leaves.
 // Word 0 is the call; behind it stand the call's numbers, then its slices. Each slice that is lent is a part, of the length given, of an array that
-// has room for any input.
+// has room for any input. Each function takes what prints and what is read, as two values: one of both would only be taken apart.
 use checking::check;
 use clearing::clear;
 use definitions::{LentBook, Order, Parts, Reason};

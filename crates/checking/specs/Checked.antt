@@ -1,5 +1,6 @@
 -- What the code tests of numbers that are not refused is what yes says (`answer_exact`).
-use Rattle.std.proofs.Common.{◌≡◌, Bool, true, false, ◌&&◌, List, map, length, ℤ, sym, ap, ◌∙◌, true≢false, arith, nat_abs}
+use Rattle.std.specs.Prelude.{◌≡◌, Bool, true, false, ◌&&◌, List, map, length, ℤ, nat_abs}
+use Rattle.std.proofs.Common.{sym, ap, ◌∙◌, true≢false, arith}
 use Rattle.definitions.specs.Limits.{cell_count}
 use Rattle.definitions.specs.Arithmetic.{eq_z}
 use Rattle.definitions.specs.Book.{Book}

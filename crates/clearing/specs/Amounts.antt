@@ -1,7 +1,8 @@
 -- A bid table and a sheet whose accepted amounts are within limits, so that their welfare can be summed (`amounts_welfare`).
-use Rattle.std.proofs.Common.{ℕ, ◌+◌, ◌*◌, ◌≤◌, ◌<◌, ◌≡◌, List, length, get_or, take, drop, ℤ, ◌∙◌, arith, mul-le-mul_right, length-take, length-drop, get_or-take, get_or-drop}
+use Rattle.std.specs.Prelude.{ℕ, ◌+◌, ◌*◌, ◌≤◌, ◌<◌, ◌≡◌, refl, List, length, get_or, take, drop, ℤ}
+use Rattle.std.proofs.Common.{ap, ◌∙◌, arith, mul-le-mul_right, length-take, length-drop, get_or-take, get_or-drop}
 use Rattle.definitions.specs.Limits.{bid_limit, pool_limit, quantity_limit, cell_count, bid_numbers}
-use Rattle.definitions.specs.Book.{Book, book}
+use Rattle.definitions.specs.Book.{book}
 use Rattle.definitions.specs.Sheet.{first_result, amount_cell}
 use Rattle.definitions.specs.Clearing.{welfare}
 use Rattle.definitions.specs.Machine.{cell}
@@ -41,9 +42,14 @@ module _ (n m : ℕ) (bids : List ℤ) (s : List ℕ) (within : AmountsWithin n 
     small = λ i l. let h : i < n = omega (arith, part_length) in omega (arith, part_amount i h, within.amounts i h);
   }
 
-  -- and what it then gives, whatever the lines carry
+  -- their welfare is that of the sheet's amounts, whatever the lines carry
+  pub part_welfare : (capacities : List ℤ) → welfare (book (length part) m bids capacities) (λ i. get_or part i 0) ≡ welfare (book n m bids capacities) (λ i. cell s (amount_cell n m i))
+  part_welfare capacities =
+      ap (λ (j : ℕ). welfare (book j m bids capacities) (λ i. get_or part i 0)) part_length
+      ∙ welfare_same (book n m bids capacities) (λ i. get_or part i 0) (λ i. cell s (amount_cell n m i)) part_amount
+
+  -- and the sum gives it
   pub amounts_welfare : (capacities : List ℤ) → summed_welfare bids part ≡ welfare (book n m bids capacities) (λ i. cell s (amount_cell n m i))
   amounts_welfare capacities =
-      let B : Book = book n m bids capacities in
-      summed_welfare_is B part part_length within.few_bids within.table (λ i l. part_ready.small i (omega (arith, part_length)))
-      ∙ welfare_same B (λ i. get_or part i 0) (λ i. cell s (amount_cell n m i)) part_amount
+      summed_welfare_is (book (length part) m bids capacities) part refl part_ready.few part_ready.table part_ready.small
+      ∙ part_welfare capacities

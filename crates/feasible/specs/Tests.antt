@@ -1,5 +1,6 @@
 -- The tests of feasibility as the code makes them: of numbers that are not refused they are together `feasible_numbers` (`tests_feasible`).
-use Rattle.std.proofs.Common.{ℕ, ◌+◌, ◌*◌, ◌≡◌, Bool, List, length, get_or, ℤ, pos, nat_abs, ap, ap₂, ◌∙◌, eqb-true, ◌&&◌, arith, eqb}
+use Rattle.std.specs.Prelude.{ℕ, ◌+◌, ◌*◌, ◌≡◌, Bool, List, length, get_or, ℤ, pos, nat_abs, ◌&&◌, eqb}
+use Rattle.std.proofs.Common.{ap, ap₂, ◌∙◌, eqb-true, arith}
 use Rattle.definitions.specs.Limits.{bid_numbers, quantity_place}
 use Rattle.definitions.specs.Arithmetic.{all_to, within}
 use Rattle.definitions.specs.Answers.{none}

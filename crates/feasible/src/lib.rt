@@ -21,15 +21,15 @@ pub struct Sent<'a> {
 
 // A book's counts and tables, and how many amounts and flows are sent for it: 1, 2, 3.
 #[tactic(auto, unfolding(definitions::specs::Checks::sent_refusal))]
-pub fn judge_sent(book: &LentBook, sent: &Sent) -> Result<Counts, Reason>
-    ensures refusal { refusal_of result ≡ sent_refusal (book_of book.now) (length sent.now.amounts.now) (length sent.now.flows.now) }
+pub fn judge_sent(book: &LentBook, amounts: usize, flows: usize) -> Result<Counts, Reason>
+    ensures refusal { refusal_of result ≡ sent_refusal (book_of book.now) amounts flows }
     ensures counts { IfOk result (λ counts. (counts.n ≡ book.now.n) × (counts.m ≡ book.now.m)) }
 {
     let counts = judge_counts(book.n, book.m)?;
     if book.bids.len() != counts.bid_numbers()
         || book.capacities.len() != counts.lines()
-        || sent.amounts.len() != counts.n
-        || sent.flows.len() != counts.lines()
+        || amounts != counts.n
+        || flows != counts.lines()
     {
         return Err(Reason::Length);
     }
@@ -90,5 +90,5 @@ fn are_feasible(book: &LentBook, sent: &Sent) -> bool
 pub fn is_feasible(book: &LentBook, sent: &Sent) -> bool
     ensures { result ≡ sent_feasible (book_of book.now) sent.now.amounts.now sent.now.flows.now }
 {
-    judge_sent(book, sent).is_ok() && are_feasible(book, sent)
+    judge_sent(book, sent.amounts.len(), sent.flows.len()).is_ok() && are_feasible(book, sent)
 }

@@ -1,6 +1,6 @@
--- Lines one after another: the next line joins those before it, and some of them are no longer than all.
-use Rattle.std.specs.Prelude.{ℕ, ◌+◌, ◌≤◌, ◌≡◌, refl, List, ◌++◌, ℤ}
-use Rattle.std.proofs.Common.{SFits, to_z, of_z, w32, w64, ◌∙◌, ap, arith, add-one}
+-- Lines one after another: the next line joins those before it (`lines_next`), and a loop that puts them on a page.
+use Rattle.std.specs.Prelude.{ℕ, zero, suc, ◌+◌, ◌≤◌, ◌<◌, ◌≡◌, ◌⊎◌, refl, List, ◌++◌, length, ℤ}
+use Rattle.std.proofs.Common.{SFits, to_z, of_z, w32, w64, ◌∙◌, ap, arith, add-one, inl, inr, eq-or-lt_of_le, length-append}
 use Rattle.definitions.specs.Arithmetic.{join_to}
 use Rattle.definitions.specs.Calls.{result_at, flow_place, pool_place, presence_place}
 use Rattle.definitions.specs.Settle.{decimal_z, space, newline, bid_line, flow_line, price_line}
@@ -35,6 +35,16 @@ price_at n m results p = price_line (p + 1) (result_at results (pool_place n m p
 pub lines_next : (k : ℕ) (line : ℕ → List ℕ) → join_to (k + 1) line ≡ join_to k line ++ line k
 unfolding join_to
 lines_next k line = rw (add-one k) refl
+
+-- the lines up to one of them are no longer than all
+pub lines_part : (i k : ℕ) (line : ℕ → List ℕ) → i < k → length (join_to i line ++ line i) ≤ length (join_to k line)
+unfolding join_to
+lines_part i zero line l = absurd (omega arith)
+lines_part i (suc k) line l = go (eq-or-lt_of_le l) (λ r. lines_part i k line r)
+  where
+    go : (suc i ≡ suc k) ⊎ (suc i < suc k) → (i < k → length (join_to i line ++ line i) ≤ length (join_to k line)) → length (join_to i line ++ line i) ≤ length (join_to k line ++ line k)
+    go (inl e) ih = let q : i ≡ k = omega arith in rw q (omega arith)
+    go (inr r) ih = omega (arith, ih (omega arith), length-append (join_to k line) (line k))
 
 -- ---- a loop that writes k lines: a is the page before it, b after i turns
 

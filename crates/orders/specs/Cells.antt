@@ -11,25 +11,25 @@ use Rattle.plan.specs.Table.{phase_at, phase_count}
 use Rattle.plan.specs.Names.{Name, at, ZeroCell, family_at, family_count, columns_of}
 use Rattle.plan.specs.Plan.{from, cell_of, Placed, PlacedOrder}
 use Rattle.orders.specs.declared.names.NamedOrder.{NamedOrder}
-use Rattle.orders.specs.Tables.{columns_from, IsLayout}
+use Rattle.orders.specs.Tables.{IsLayout}
 use Rattle.orders.specs.Families.{number_at, number_below}
 use Rattle.orders.specs.Walk.{name_at, operation_of, order_by, named_of, flat_of, made, numbered_of}
 use Rattle.orders.specs.Shaped.{InPhase, flat_in, flat_order, order_placed}
 
 -- the number that the code computes is the name's cell, and one of the sheet's
-pub record CellBy (n m f i j : ℕ) (t : List ℕ) : Type 0 where
-  pub is_cell : get_or t f 0 + (i * get_or t (columns_from + f) 0 + j) ≡ cell_of n m (name_at f i j)
-  pub on_sheet : get_or t f 0 + (i * get_or t (columns_from + f) 0 + j) < cell_count
+pub record CellBy (n m f i j : ℕ) (starts columns : List ℕ) : Type 0 where
+  pub is_cell : get_or starts f 0 + (i * get_or columns f 0 + j) ≡ cell_of n m (name_at f i j)
+  pub on_sheet : get_or starts f 0 + (i * get_or columns f 0 + j) < cell_count
 
 -- the cell from the start of its family and its columns, each known by an equation
 cell_is : (n m f i j s w : ℕ) → f < family_count → s ≡ from n m f → w ≡ columns_of n m (family_at f) → s + (i * w + j) ≡ cell_of n m (name_at f i j)
 unfolding from
 cell_is n m f i j s w l e g = rw (e, g, number_at f l)
 
-pub cell_by : (n m f i j : ℕ) (t : List ℕ) → IsLayout n m t → f < family_count → Placed n m (name_at f i j) → CellBy n m f i j t
-cell_by n m f i j t layout l v =
-    let q : get_or t f 0 + (i * get_or t (columns_from + f) 0 + j) ≡ cell_of n m (name_at f i j)
-    = cell_is n m f i j _ _ l (layout.begin f (omega arith)) (layout.columns f l) in
+pub cell_by : (n m f i j : ℕ) (starts columns : List ℕ) → IsLayout n m starts columns → f < family_count → Placed n m (name_at f i j) → CellBy n m f i j starts columns
+cell_by n m f i j starts columns layout l v =
+    let q : get_or starts f 0 + (i * get_or columns f 0 + j) ≡ cell_of n m (name_at f i j)
+    = cell_is n m f i j _ _ l (layout.begin f (omega arith)) (layout.wide f l) in
     record { is_cell = q; on_sheet = rw q v.1 }
 
 -- the families of an order's cells are among those that there are

@@ -1,9 +1,9 @@
--- Orders over names run on a slice, each in turn: one law for a loop of blocks (`Ran`) and one for a block (`Done`), on which the runner's loops rest.
+-- Orders over names run on a slice, each in turn: one law for a loop of blocks (`ran_one`) and one for a block (`step_one`), on which the runner's loops rest.
 -- On a sheet the plan's run is document 01's (`stepped_plan_is`).
-use Rattle.std.specs.Prelude.{◌≡◌, false, ℕ, ◌+◌, ◌≤◌, ◌<◌, length, get_or, take}
-use Rattle.std.proofs.Math.Path.{refl, sym, ap}
-use Rattle.std.proofs.Common.{◌∙◌, arith, add-one, take-suc}
-use mathlib.Core.List.{List, [], ◌∷◌, ◌++◌, map, map-append}
+use Rattle.std.specs.Prelude.{◌≡◌, false, ℕ, zero, suc, ◌+◌, ◌-◌, ◌≤◌, ◌<◌, List, [], ◌∷◌, ◌++◌, map, length, get_or, take}
+use Rattle.std.proofs.Common.{refl, sym, ap, ◌∙◌, arith, add-one, append-nil, take-suc}
+use Rattle.std.proofs.Math.ListN.{get_or-eq_default}
+use mathlib.Core.List.{map-append}
 use Rattle.std.proofs.Math.Seq.{take-length}
 use Rattle.definitions.specs.declared.Order.{Order}
 use Rattle.definitions.specs.Answers.{Refusal, none, unless, is_none}
@@ -17,13 +17,12 @@ use Rattle.machine.specs.Run.{stepped_all_is, stepped_all_length}
 use Rattle.plan.specs.Orders.{OrderOn, constant, order_of, renamed}
 use Rattle.plan.specs.Names.{Name, ZeroCell}
 use Rattle.plan.specs.Loops.{loop}
-use Rattle.plan.specs.Phased.{flat, part_at}
+use Rattle.plan.specs.Phased.{no_part, flat, part_at, stretch, row_of, row_loop_lem}
 use Rattle.plan.specs.Table.{Phase, table}
 use Rattle.plan.specs.Plan.{cell_of, plan}
 use Rattle.plan.proofs.PlanOrders.{plan_orders}
-use Rattle.orders.specs.declared.names.NamedOrder.{NamedOrder}
-use Rattle.orders.specs.Walk.{named, named_of, numbered_of}
-use Rattle.orders.specs.Shaped.{InPhase, order_in, flat_in, flat_order}
+use Rattle.orders.specs.Limits.{part_limit}
+use Rattle.orders.specs.Walk.{named, numbered_of}
 
 -- ---- a plan's run on any slice
 
@@ -67,73 +66,46 @@ module _ (n m : ℕ) where
       ∙ ap (λ (l : List Order). stepped_all l s) (map-append order_of (map (renamed (cell_of n m)) x) (map (renamed (cell_of n m)) y))
       ∙ stepped_append (map order_of (map (renamed (cell_of n m)) x)) (map order_of (map (renamed (cell_of n m)) y)) s
 
-  -- ---- a loop of blocks, run from its first on
+  -- ---- a loop of blocks, one more run
 
-  -- s is the slice after the first count blocks, of at most so many
-  pub record Ran (f : ℕ → List (OrderOn Name)) (most : ℕ) (start s : List ℕ) (count : ℕ) : Type 0 where
-    pub within : count ≤ most
-    pub ran : s ≡ ran_of (loop count f) start
+  pub ran_none : (s : List ℕ) → s ≡ ran_of [] s
+  unfolding ran_of stepped_all
+  ran_none s = refl
 
-  module _ (f : ℕ → List (OrderOn Name)) (most : ℕ) (start : List ℕ) where
-    pub ran_none : Ran f most start start 0
-    unfolding ran_of stepped_all
-    ran_none = record { within = omega arith; ran = refl }
+  pub ran_one : (f : ℕ → List (OrderOn Name)) (start s t : List ℕ) (count : ℕ) → s ≡ ran_of (loop count f) start → t ≡ ran_of (f count) s
+      → t ≡ ran_of (loop (count + 1) f) start
+  ran_one f start s t count h e =
+      e ∙ ap (ran_of (f count)) h ∙ sym (ran_append (loop count f) (f count) start) ∙ ap (λ (c : ℕ). ran_of (loop c f) start) (sym (add-one count))
 
-    pub ran_one : (s t : List ℕ) (count : ℕ) → Ran f most start s count → count < most → t ≡ ran_of (f count) s → Ran f most start t (count + 1)
-    ran_one s t count h l e = record {
-      within = omega arith;
-      ran =
-          e
-          ∙ ap (ran_of (f count)) h.ran
-          ∙ sym (ran_append (loop count f) (f count) start)
-          ∙ ap (λ (c : ℕ). ran_of (loop c f) start) (sym (add-one count));
-    }
+  -- ---- a block, one more of its orders run
 
-    pub ran_all : (s : List ℕ) (count : ℕ) → Ran f most start s count → most ≤ count → s ≡ ran_of (loop most f) start
-    ran_all s count h l = let e : count ≡ most = omega (arith, h.within) in h.ran ∙ ap (λ (c : ℕ). ran_of (loop c f) start) e
+  pub step_one : (block : List (OrderOn Name)) (start s t : List ℕ) (count : ℕ) → s ≡ ran_of (take count block) start → count < length block
+      → t ≡ stepped s (numbered_of n m (named block count)) → t ≡ ran_of (take (count + 1) block) start
+  unfolding ran_of stepped_all numbered_of named
+  step_one block start s t count h l g =
+      let o : OrderOn Name = get_or block count (constant ZeroCell 0) in
+      g
+      ∙ ap (λ (r : List ℕ). stepped r (order_of (renamed (cell_of n m) o))) h
+      ∙ sym (ran_append (take count block) (o ∷ []) start)
+      ∙ ap (λ (x : List (OrderOn Name)). ran_of x start) (sym (take-suc block count (constant ZeroCell 0) l))
+      ∙ ap (λ (c : ℕ). ran_of (take c block) start) (sym (add-one count))
 
-    pub ran_same_length : (s : List ℕ) (count : ℕ) → Ran f most start s count → length s ≡ length start
-    ran_same_length s count h = ap length h.ran ∙ ran_length (loop count f) start
+  -- its whole run
+  pub block_ran : (block : List (OrderOn Name)) (start s : List ℕ) (count : ℕ) → s ≡ ran_of (take count block) start → count ≡ length block → s ≡ ran_of block start
+  block_ran block start s count h e =
+      h ∙ ap (λ (c : ℕ). ran_of (take c block) start) e ∙ ap (λ (x : List (OrderOn Name)). ran_of x start) (take-length block)
 
-  -- ---- a block, order after order
+-- ---- a row as a loop over four parts, of which the last may be empty
 
-  -- s is the slice after the first count orders
-  pub record Done (block : List (OrderOn Name)) (start s : List ℕ) (count : ℕ) : Type 0 where
-    pub within : count ≤ length block
-    pub ran : s ≡ ran_of (take count block) start
+longer : {A : Type 0} (f : ℕ → List A) (k d : ℕ) → ((q : ℕ) → k ≤ q → f q ≡ []) → loop (k + d) f ≡ loop k f
+longer f k zero h = ap (λ (c : ℕ). loop c f) (let e : k + 0 ≡ k = omega arith in e)
+longer f k (suc d) h =
+    ap (λ (c : ℕ). loop c f) (let e : k + suc d ≡ suc (k + d) = omega arith in e)
+    ∙ rw (longer f k d h, h (k + d) (omega arith)) (append-nil (loop k f))
 
-  module _ (block : List (OrderOn Name)) (start : List ℕ) where
-    pub done_none : Done block start start 0
-    unfolding ran_of stepped_all
-    done_none = record { within = omega arith; ran = refl }
-
-    done_one : (s t : List ℕ) (count : ℕ) (o : OrderOn Name) → Done block start s count → count < length block
-        → o ≡ get_or block count (constant ZeroCell 0)
-        → t ≡ stepped s (order_of (renamed (cell_of n m) o)) → Done block start t (count + 1)
-    unfolding ran_of stepped_all
-    done_one s t count o h l e g = record {
-      within = omega arith;
-      ran =
-          g
-          ∙ ap (λ (r : List ℕ). stepped r (order_of (renamed (cell_of n m) o))) h.ran
-          ∙ ap (λ (u : OrderOn Name). stepped (ran_of (take count block) start) (order_of (renamed (cell_of n m) u))) e
-          ∙ sym (ran_append (take count block) (get_or block count (constant ZeroCell 0) ∷ []) start)
-          ∙ ap (λ (x : List (OrderOn Name)). ran_of x start) (sym (take-suc block count (constant ZeroCell 0) l))
-          ∙ ap (λ (c : ℕ). ran_of (take c block) start) (sym (add-one count));
-    }
-
-    pub done_all : (s : List ℕ) (count : ℕ) → Done block start s count → length block ≤ count → s ≡ ran_of block start
-    done_all s count h l =
-        let e : count ≡ length block = omega (arith, h.within) in
-        h.ran ∙ ap (λ (c : ℕ). ran_of (take c block) start) e ∙ ap (λ (x : List (OrderOn Name)). ran_of x start) (take-length block)
-
-    pub done_same_length : (s : List ℕ) (count : ℕ) → Done block start s count → length s ≡ length start
-    done_same_length s count h = ap length h.ran ∙ ran_length (take count block) start
-
-  -- one order of a phase, as the code makes, numbers and runs it
-  pub next_order : (p : Phase) (i q j r : ℕ) → InPhase p i q j r → (start s t : List ℕ) (o : NamedOrder) (order : Order)
-      → Done ((part_at p q).block i j) start s r → o ≡ flat_in p i q j r → order ≡ numbered_of n m (named_of o) → t ≡ stepped s order
-      → Done ((part_at p q).block i j) start t (r + 1)
-  unfolding numbered_of order_in named
-  next_order p i q j r place start s t o order h e f g =
-      done_one ((part_at p q).block i j) start s t r (named_of o) h (omega (arith, place.place, (part_at p q).fair i j)) (flat_order p i q j r o e) (g ∙ ap (stepped s) f)
+pub row_of_four : (p : Phase) (i : ℕ) → length p.parts ≤ part_limit → loop part_limit (λ q. stretch i (part_at p q)) ≡ row_of p i
+row_of_four p i h =
+    let e : part_limit ≡ length p.parts + (part_limit - length p.parts) = omega arith in
+    ap (λ (c : ℕ). loop c (λ q. stretch i (part_at p q))) e
+    ∙ longer (λ q. stretch i (part_at p q)) (length p.parts) (part_limit - length p.parts) (λ q l. ap (stretch i) (get_or-eq_default p.parts no_part {n = q} l))
+    ∙ sym (row_loop_lem p i)

@@ -3,7 +3,6 @@ use Rattle.std.specs.Prelude.{◌≡◌, ◌≢◌, List, [], ◌∷◌, ℕ, ze
 use Rattle.std.proofs.Math.Path.{refl, ap}
 use Rattle.std.proofs.Common.{sym, ◌∙◌, mod-lt, div-lt_iff_lt-mul, div-add-mod', arith}
 use Rattle.definitions.specs.Arithmetic.{sum_to}
-use Rattle.definitions.specs.Limits.{bid_limit, pool_limit, cell_count}
 use Rattle.laws.specs.Sizes.{Counts}
 use Rattle.plan.specs.Orders.{OrderOn, constant}
 use Rattle.plan.specs.Names.{Name, ZeroCell}
@@ -12,11 +11,14 @@ use Rattle.plan.specs.Loops.{loop}
 use Rattle.plan.specs.Running.{subset_block}
 use Rattle.plan.specs.Blocks.{cut_turn}
 use Rattle.plan.specs.Subsets.{lowest}
-use Rattle.orders.specs.declared.table.Columns.{Columns}
-use Rattle.orders.specs.declared.table.Shape.{Shape}
+use Rattle.orders.specs.Limits.{part_limit}
+use Rattle.orders.specs.declared.shape.Columns.{Columns}
+use Rattle.orders.specs.declared.shape.Shape.{Shape}
+use Rattle.std.proofs.Math.Decide.{dec_lt}
+use Rattle.std.proofs.Math.ListN.{get_or-eq_default}
 use Rattle.orders.specs.declared.names.NamedOrder.{NamedOrder}
 use Rattle.orders.specs.Walk.{flat_of, named_of, named_flat, named, made, subset_lowest}
-use Rattle.plan.specs.Phased.{PartOf, part_at, part_size, row_size, phase_in, Has, has_here, in_even, block_each, even_length}
+use Rattle.plan.specs.Phased.{PartOf, no_part, part_at, part_size, row_size, phase_size, phase_in, Has, has_here, in_even, block_each, even_length}
 use Rattle.plan.specs.Table.{Phase, cut_phase, table, phase_at, phase_count, table_length}
 use Rattle.plan.specs.Plan.{PlacedOrder}
 use Rattle.plan.proofs.PlanFacts.{table_placed}
@@ -25,55 +27,35 @@ pub positive_right : (a b x : ℕ) → x < a * b → 0 < b
 positive_right a zero x h = absurd (omega arith)
 positive_right a (suc b) x h = omega arith
 
--- ---- how large a phase's numbers are, at the limits of the counts
-
--- how many parts a row has at most
-abbrev pub part_limit : ℕ
-part_limit = 4
-
--- how many orders a block has at most: as many as a cut's
-abbrev pub turn_limit : ℕ
-turn_limit = 1 + pool_limit * pool_limit
-
--- how many a part of a row has, whose columns are at most the cells of the sheet
-abbrev pub stretch_limit : ℕ
-stretch_limit = cell_count * turn_limit
-
--- how many a row has
-abbrev pub row_limit : ℕ
-row_limit = part_limit * stretch_limit
-
--- how many a phase has
-abbrev pub phase_limit : ℕ
-phase_limit = bid_limit * row_limit
-
--- a columns of b orders each
-abbrev pub Small : ℕ → ℕ → Type 0
-Small a b = (a ≤ cell_count) × (b ≤ turn_limit)
-
--- the same of a part as the code has it
-abbrev pub SmallPart : Columns → Type 0
-SmallPart t = Small t.0 t.1
-
--- and of a phase
-abbrev pub SmallShape : Shape → Type 0
-SmallShape s = (s.0 ≤ bid_limit) × (s.1 ≤ part_limit) × Small s.2 s.3 × Small s.4 s.5 × Small s.6 s.7 × Small s.8 s.9
-
 -- ---- a phase's numbers
 
--- part q has a columns of b orders each
-abbrev pub IsPart : Phase → ℕ → ℕ → ℕ → Type 0
-IsPart p q a b = (a ≡ (part_at p q).columns) × (b ≡ (part_at p q).turn)
+-- t has the numbers of part q
+abbrev pub IsPart : Phase → ℕ → Columns → Type 0
+IsPart p q t = (t.count ≡ (part_at p q).columns) × (t.turn ≡ (part_at p q).turn)
 
--- s are the numbers of phase p
+-- s has the numbers of phase p
 pub record IsShape (p : Phase) (s : Shape) : Type 0 where
-  pub small : SmallShape s
-  pub rows : s.0 ≡ p.rows
-  pub parts : s.1 ≡ length p.parts
-  pub columns : IsPart p 0 s.2 s.3 × IsPart p 1 s.4 s.5 × IsPart p 2 s.6 s.7 × IsPart p 3 s.8 s.9
+  pub rows : s.rows ≡ p.rows
+  pub most : length p.parts ≤ part_limit
+  pub parts : (q : ℕ) (d : Columns) → q < part_limit → IsPart p q (get_or s.parts q d)
 
-pub shaped : (n m k K : ℕ) (s : Shape) → k ≡ K → IsShape (phase_at n m K) s → IsShape (phase_at n m k) s
-shaped n m k K s e h = rw e h
+-- by four parts
+pub shape_of_parts : (p : Phase) (s : Shape) (t u v w : Columns) → s.rows ≡ p.rows → s.parts ≡ t ∷ u ∷ v ∷ w ∷ [] → length p.parts ≤ part_limit
+    → IsPart p 0 t → IsPart p 1 u → IsPart p 2 v → IsPart p 3 w → IsShape p s
+shape_of_parts p s t u v w rows e most a b c d = record { rows = rows; most = most; parts = go }
+  where
+    go : (q : ℕ) (x : Columns) → q < part_limit → IsPart p q (get_or s.parts q x)
+    go zero x l = rw e a
+    go (suc zero) x l = rw e b
+    go (suc (suc zero)) x l = rw e c
+    go (suc (suc (suc zero))) x l = rw e d
+    go (suc (suc (suc (suc q)))) x l = absurd (omega arith)
+
+-- of a phase whose number is known
+pub shape_known : (n m k K : ℕ) (s : Shape) (t u v w : Columns) → k ≡ K → s.rows ≡ (phase_at n m K).rows → s.parts ≡ t ∷ u ∷ v ∷ w ∷ []
+    → length (phase_at n m K).parts ≤ part_limit → IsPart (phase_at n m K) 0 t → IsPart (phase_at n m K) 1 u → IsPart (phase_at n m K) 2 v → IsPart (phase_at n m K) 3 w
+    → IsShape (phase_at n m k) s
+shape_known n m k K s t u v w e rows parts most a b c d = rw e (shape_of_parts (phase_at n m K) s t u v w rows parts most a b c d)
 
 -- a key that is none of the first K numbers, as the last arm of a match knows it
 abbrev pub Refuted : ℕ → ℕ → Type 0
@@ -84,34 +66,23 @@ pub past : (k K : ℕ) → Refuted k K → K ≤ k
 past k zero h = omega arith
 past k (suc K) h = let l = past k K h.0 in let e = h.1 in omega (arith, e)
 
--- t is part q as the code reads it
-abbrev pub PartIn : Shape → ℕ → Columns → Type 0
-PartIn s zero t = (t.0 ≡ s.2) × (t.1 ≡ s.3)
-PartIn s (suc zero) t = (t.0 ≡ s.4) × (t.1 ≡ s.5)
-PartIn s (suc (suc zero)) t = (t.0 ≡ s.6) × (t.1 ≡ s.7)
-PartIn s (suc (suc (suc q))) t = (t.0 ≡ s.8) × (t.1 ≡ s.9)
+-- a part of no columns
+abbrev pub no_columns : Columns
+no_columns = record { count = 0; turn = 0; few = omega arith; short = omega arith }
 
-pub part_last : (s : Shape) (q : ℕ) (t : Columns) → 3 ≤ q → PartIn s 3 t → PartIn s q t
-part_last s zero t h e = absurd (omega arith)
-part_last s (suc zero) t h e = absurd (omega arith)
-part_last s (suc (suc zero)) t h e = absurd (omega arith)
-part_last s (suc (suc (suc q))) t h e = e
+-- part q as the code has it
+abbrev pub part_in : Shape → ℕ → Columns
+part_in s q = get_or s.parts q no_columns
 
-pub part_known : (s : Shape) (q K : ℕ) (t : Columns) → q ≡ K → PartIn s K t → PartIn s q t
-part_known s q K t e h = rw e h
+-- how many orders part q has
+abbrev pub part_number : Shape → ℕ → ℕ
+part_number s q = (part_in s q).count * (part_in s q).turn
 
-pub part_is : (p : Phase) (s : Shape) → IsShape p s → (q : ℕ) → q < part_limit → (t : Columns) → PartIn s q t → IsPart p q t.0 t.1 × SmallPart t
-part_is p s h zero l t e = let c = h.columns.0 in ((e.0 ∙ c.0, e.1 ∙ c.1), omega (arith, h.small.2, e.0, e.1))
-part_is p s h (suc zero) l t e = let c = h.columns.1 in ((e.0 ∙ c.0, e.1 ∙ c.1), omega (arith, h.small.3, e.0, e.1))
-part_is p s h (suc (suc zero)) l t e = let c = h.columns.2 in ((e.0 ∙ c.0, e.1 ∙ c.1), omega (arith, h.small.4, e.0, e.1))
-part_is p s h (suc (suc (suc zero))) l t e = let c = h.columns.3 in ((e.0 ∙ c.0, e.1 ∙ c.1), omega (arith, h.small.5, e.0, e.1))
-part_is p s h (suc (suc (suc (suc q)))) l t e = absurd (omega arith)
-
--- a row's length by the four parts
+-- and a row, by the four parts
 abbrev pub row_number : Shape → ℕ
-row_number s = s.2 * s.3 + (s.4 * s.5 + (s.6 * s.7 + s.8 * s.9))
+row_number s = part_number s 0 + (part_number s 1 + (part_number s 2 + part_number s 3))
 
-four : (ts : List (PartOf (OrderOn Name))) (k : ℕ) → length ts ≤ part_limit
+pub four : (ts : List (PartOf (OrderOn Name))) (k : ℕ) → length ts ≤ part_limit
     → (let f : ℕ → ℕ = part_size (record { rows = k; parts = ts }) in f 0 + (f 1 + (f 2 + f 3)) ≡ sum_to (length ts) f)
 unfolding sum_to
 four [] k h = omega arith
@@ -124,8 +95,22 @@ four (a ∷ (b ∷ (c ∷ (d ∷ (e ∷ ts))))) k h = absurd (omega arith)
 pub row_is : (p : Phase) (s : Shape) → IsShape p s → row_number s ≡ row_size p
 unfolding row_size
 row_is p s h =
-    let c = h.columns in
-    rw (c.0.0, c.0.1, c.1.0, c.1.1, c.2.0, c.2.1, c.3.0, c.3.1) (four p.parts p.rows (omega (arith, h.parts, h.small.1)))
+    let a = h.parts 0 no_columns (omega arith) in
+    let b = h.parts 1 no_columns (omega arith) in
+    let c = h.parts 2 no_columns (omega arith) in
+    let d = h.parts 3 no_columns (omega arith) in
+    rw (a.0, a.1, b.0, b.1, c.0, c.1, d.0, d.1) (four p.parts p.rows h.most)
+
+-- a phase's length
+pub size_is : (p : Phase) (s : Shape) → IsShape p s → s.rows * row_number s ≡ phase_size p
+size_is p s h = rw (row_is p s h, h.rows)
+
+-- only parts that are there have columns
+pub part_there : (p : Phase) (q j : ℕ) → j < (part_at p q).columns → q < length p.parts
+part_there p q j h = elim (dec_lt q (length p.parts)) [
+  | yes l ↦ l
+  | no l ↦ absurd (omega (arith, ap (λ (t : PartOf (OrderOn Name)). t.columns) (get_or-eq_default p.parts no_part {n = q} (omega arith))))
+]
 
 -- ---- a place in a phase
 

@@ -1,28 +1,23 @@
--- What each turn of the walker's loops knows: over the parts of a row, over the phases, and over the table of their sizes.
-use Rattle.std.specs.Prelude.{◌≡◌, refl, List, ℕ, suc, ◌+◌, ◌*◌, ◌-◌, ◌%◌, ◌/◌, ◌≤◌, ◌<◌, ◌⊎◌, get_or}
-use Rattle.std.proofs.Common.{sym, ◌∙◌, mod-lt, div-lt_iff_lt-mul, div-add-mod', eq-or-lt_of_le, inl, inr, add-one}
-use Rattle.std.proofs.Math.Path.{ap}
-use native.Mathlib.Omega.{arith}
-use Rattle.std.proofs.Math.ListN.{length}
+-- What the walk through the tables knows of a place: in a row, in a phase, in the plan.
+use Rattle.std.specs.Prelude.{◌≡◌, refl, List, [], ◌∷◌, ℕ, zero, suc, ◌+◌, ◌*◌, ◌%◌, ◌/◌, ◌≤◌, ◌<◌, length, get_or}
+use Rattle.std.proofs.Common.{sym, ap, ◌∙◌, arith, mod-lt, div-lt_iff_lt-mul, div-add-mod'}
+use Rattle.std.proofs.Math.Decide.{dec_lt}
+use Rattle.std.proofs.Math.ListN.{get_or-eq_default}
 use Rattle.definitions.specs.Arithmetic.{sum_to}
 use Rattle.plan.specs.Orders.{OrderOn}
 use Rattle.plan.specs.Names.{Name}
-use Rattle.orders.specs.declared.table.Columns.{Columns}
-use Rattle.orders.specs.declared.table.Shape.{Shape}
-use Rattle.orders.specs.declared.walk.Within.{Within}
 use Rattle.definitions.specs.declared.Order.{Order}
 use Rattle.definitions.specs.declared.Order.TheVariants.{Constant}
 use Rattle.plan.specs.Plan.{plan}
-use Rattle.plan.proofs.PlanFacts.{plan_has}
-use Rattle.orders.specs.Walk.{numbered_of}
-use Rattle.plan.specs.Phased.{part_at, part_size, row_size, part_start, phase_size, phase_start, table_size, phase_in, row_of, all_rows, flat, flat_length, Has, in_row, in_rows, in_table}
+use Rattle.plan.proofs.PlanFacts.{plan_has, plan_length}
+use Rattle.plan.specs.Phased.{PartOf, no_part, no_phase, part_at, part_size, row_size, part_start, phase_size, phase_start, table_size, phase_in, row_of, all_rows, Has, in_row, in_rows, in_table}
 use Rattle.plan.specs.Table.{Phase, table, phase_at, phase_count, table_length}
-use Rattle.orders.specs.Shaped.{phase_limit, IsShape, SmallPart, PartIn, part_is, InPhase, order_in, has_order, positive_right}
-
--- row i and part q are among those of a phase
-pub record InPart (p : Phase) (i q : ℕ) : Type 0 where
-  pub row : i < p.rows
-  pub part : q < length p.parts
+use Rattle.orders.specs.Limits.{phase_limit}
+use Rattle.orders.specs.declared.shape.Shape.{Shape}
+use Rattle.orders.specs.Walk.{numbered_of}
+use Rattle.orders.specs.Shaped.{IsShape, part_number, no_columns, part_there, four, InPhase, order_in, has_order, positive_right}
+use Rattle.orders.specs.Tables.{IsSizes}
+use Rattle.orders.specs.Stretches.{start, start_is, from_start}
 
 -- r is the machine's order for entry x of a list over names
 pub record IsAt (n m : ℕ) (l : List (OrderOn Name)) (x : ℕ) (r : Order) : Type 0 where
@@ -32,98 +27,49 @@ pub record IsAt (n m : ℕ) (l : List (OrderOn Name)) (x : ℕ) (r : Order) : Ty
 
 -- ---- in a row
 
--- the first q parts are passed
-pub record PartsPassed (p : Phase) (x y q : ℕ) : Type 0 where
-  pub parts : q ≤ length p.parts
+-- place x of a row is place y of part q
+pub record Lies (p : Phase) (x q y : ℕ) : Type 0 where
   pub left : x ≡ part_start p q + y
+  pub inside : y < part_size p q
 
-module _ (p : Phase) (x : ℕ) where
-  pub parts_none : PartsPassed p x x 0
-  unfolding part_start sum_to
-  parts_none = record { parts = omega arith; left = omega arith }
+module _ (p : Phase) (x q y turn : ℕ) (h : Lies p x q y) (e : turn ≡ (part_at p q).turn) where
+  pub some_turn : 0 < turn
+  some_turn = rw e (positive_right (part_at p q).columns (part_at p q).turn y h.inside)
 
-  module _ (y q : ℕ) (h : PartsPassed p x y q) (l : x < row_size p) where
-    pub part_left : q < length p.parts
-    unfolding row_size part_start
-    part_left = go (eq-or-lt_of_le h.parts)
-      where
-        go : (q ≡ length p.parts) ⊎ (q < length p.parts) → q < length p.parts
-        go (inr a) = a
-        go (inl e) = absurd (omega (arith, h.left, ap (λ (k : ℕ). sum_to k (part_size p)) e))
+  module _ (i : ℕ) (a : i < p.rows) where
+    pub found : InPhase p i q (y / turn) (y % turn)
+    found =
+        let column : y / turn < (part_at p q).columns = (div-lt_iff_lt-mul some_turn).1 (rw (← e) at h.inside) in
+        record { row = a; part = part_there p q (y / turn) column; column = column; place = rw (← e) (mod-lt y some_turn) }
 
-    pub parts_one : (size : ℕ) → size ≡ part_size p q → size ≤ y → PartsPassed p x (y - size) (q + 1)
-    unfolding part_start sum_to
-    parts_one size e k = record {
-      parts = omega (arith, part_left);
-      left =
-          h.left
-          ∙ (let w : sum_to q (part_size p) + y ≡ sum_to (suc q) (part_size p) + (y - size) = omega (arith, e) in
-          w ∙ ap (λ (z : ℕ). sum_to z (part_size p) + (y - size)) (sym (add-one q)));
-    }
-
-    -- the place within part q
-    pub found : (i turn : ℕ) → i < p.rows → turn ≡ (part_at p q).turn → y < part_size p q → InPhase p i q (y / turn) (y % turn)
-    found i turn a e k = record {
-      row = a;
-      part = part_left;
-      column = (div-lt_iff_lt-mul positive).1 (rw (← e) at k);
-      place = rw (← e) (mod-lt y positive);
-    }
-      where
-        positive : 0 < turn
-        positive = rw e (positive_right (part_at p q).columns (part_at p q).turn y k)
-
-    pub found_has : (i turn : ℕ) (a : i < p.rows) (e : turn ≡ (part_at p q).turn) (k : y < part_size p q) (o : OrderOn Name)
-        → o ≡ order_in p i q (y / turn) (y % turn) → Has (row_of p i) x o
-    found_has i turn a e k o f =
-        let place = found i turn a e k in
-        let has = in_row p i q (y / turn) (y % turn) o place.part place.column (rw f (has_order p i q (y / turn) (y % turn) place)) in
+    pub found_at : (n m : ℕ) (r : Order) → r ≡ numbered_of n m (order_in p i q (y / turn) (y % turn)) → IsAt n m (row_of p i) x r
+    found_at n m r f =
+        let has = in_row p i q (y / turn) (y % turn) _ found.part found.column (has_order p i q (y / turn) (y % turn) found) in
         let w : x ≡ part_start p q + ((y / turn) * (part_at p q).turn + y % turn)
         = h.left ∙ ap (λ (z : ℕ). part_start p q + z) (sym (div-add-mod' y turn) ∙ ap (λ (z : ℕ). (y / turn) * z + y % turn) e) in
-        rw w has
+        record { order = order_in p i q (y / turn) (y % turn); there = rw w has; is = f }
 
--- ---- in the table
+-- the sizes of the four parts
+module _ (p : Phase) (s : Shape) (h : IsShape p s) (sizes : List ℕ) (e : sizes ≡ part_number s 0 ∷ part_number s 1 ∷ part_number s 2 ∷ part_number s 3 ∷ []) where
+  parts_sized : (u : ℕ) → get_or sizes u 0 ≡ part_size p u
+  parts_sized zero = let t = h.parts 0 no_columns (omega arith) in rw (e, t.0, t.1) refl
+  parts_sized (suc zero) = let t = h.parts 1 no_columns (omega arith) in rw (e, t.0, t.1) refl
+  parts_sized (suc (suc zero)) = let t = h.parts 2 no_columns (omega arith) in rw (e, t.0, t.1) refl
+  parts_sized (suc (suc (suc zero))) = let t = h.parts 3 no_columns (omega arith) in rw (e, t.0, t.1) refl
+  parts_sized (suc (suc (suc (suc u)))) =
+      rw e (sym (ap (λ (t : PartOf (OrderOn Name)). t.columns * t.turn) (get_or-eq_default p.parts no_part {n = suc (suc (suc (suc u)))} (omega (arith, h.most)))))
 
--- the first k phases are passed
-pub record PhasesPassed (ps : List Phase) (x y k : ℕ) : Type 0 where
-  pub phases : k ≤ length ps
-  pub left : x ≡ phase_start ps k + y
+  -- the row's end by them
+  pub row_end : start sizes (length sizes) ≡ row_size p
+  unfolding start sum_to row_size
+  row_end = rw e (omega (arith, parts_sized 0, parts_sized 1, parts_sized 2, parts_sized 3, rw e at (parts_sized 0), rw e at (parts_sized 1), rw e at (parts_sized 2), rw e at (parts_sized 3), four p.parts p.rows h.most))
 
-module _ (ps : List Phase) (x : ℕ) where
-  pub phases_none : PhasesPassed ps x x 0
-  unfolding phase_start sum_to
-  phases_none = record { phases = omega arith; left = omega arith }
-
-  -- counted from the start of the first phase
-  pub first_phase_start : phase_start ps 0 + x ≡ x
-  unfolding phase_start sum_to
-  first_phase_start = omega arith
-
-  -- past the last phase is past the list's end
-  pub phases_all : (y k : ℕ) → PhasesPassed ps x y k → length ps ≤ k → length (flat ps) ≤ x
-  unfolding table_size phase_start
-  phases_all y k h l =
-      let e : k ≡ length ps = omega (arith, h.phases) in
-      omega (arith, h.left, flat_length ps, ap (λ (u : ℕ). sum_to u (λ v. phase_size (phase_in ps v))) e)
-
-  -- before the list's end there is a phase left
-  pub phase_left : (y k : ℕ) → PhasesPassed ps x y k → x < length (flat ps) → k < length ps
-  phase_left y k h l = go (eq-or-lt_of_le h.phases)
-    where
-      go : (k ≡ length ps) ⊎ (k < length ps) → k < length ps
-      go (inr a) = a
-      go (inl e) = absurd (omega (arith, phases_all y k h (omega arith)))
-
-  module _ (y k : ℕ) (h : PhasesPassed ps x y k) (l : k < length ps) where
-    pub phases_one : (size : ℕ) → size ≡ phase_size (phase_in ps k) → size ≤ y → PhasesPassed ps x (y - size) (k + 1)
-    unfolding phase_start sum_to
-    phases_one size e a = record {
-      phases = omega arith;
-      left =
-          h.left
-          ∙ (let w : sum_to k (λ v. phase_size (phase_in ps v)) + y ≡ sum_to (suc k) (λ v. phase_size (phase_in ps v)) + (y - size) = omega (arith, e) in
-          w ∙ ap (λ (z : ℕ). sum_to z (λ v. phase_size (phase_in ps v)) + (y - size)) (sym (add-one k)));
-    }
+  pub lies : (x q y : ℕ) → start sizes q + y ≡ start sizes 0 + x → y < get_or sizes q 0 → Lies p x q y
+  unfolding part_start
+  lies x q y same inside = record {
+    left = sym (from_start sizes x) ∙ sym same ∙ ap (λ (z : ℕ). z + y) (start_is sizes (part_size p) parts_sized q);
+    inside = rw (parts_sized q) at inside;
+  }
 
 -- ---- in a phase
 
@@ -143,70 +89,35 @@ module _ (p : Phase) (y row : ℕ) (e : row ≡ row_size p) (a : y < phase_size 
       let w : y ≡ (y / row) * row_size p + y % row = sym (div-add-mod' y row) ∙ ap (λ (z : ℕ). (y / row) * z + y % row) e in
       record { order = q.order; there = rw w has; is = q.is }
 
--- ---- a position of the plan
+-- ---- in the plan
 
--- the place of a position
-pub record IsWithin (n m at : ℕ) (p : Within) : Type 0 where
-  pub passed : PhasesPassed (table n m) at p.1 p.0
-  pub phase : p.0 < phase_count
-  pub inside : p.1 < phase_size (phase_at n m p.0)
+module _ (n m : ℕ) (sizes : List ℕ) (long : length sizes ≡ phase_count) (h : IsSizes n m sizes) where
+  phases_sized : (u : ℕ) → get_or sizes u 0 ≡ phase_size (phase_in (table n m) u)
+  unfolding phase_at row_size sum_to
+  phases_sized u = elim (dec_lt u phase_count) [
+    | yes l ↦ (h u l).is
+    | no l ↦
+        get_or-eq_default sizes 0 {n = u} (omega arith)
+        ∙ sym (ap (λ (p : Phase). phase_size p) (get_or-eq_default (table n m) no_phase {n = u} (omega (arith, table_length n m))))
+  ]
 
--- the plan's order there
-pub plan_at : (n m at : ℕ) (p : Within) (r : Order) → IsWithin n m at p → IsAt n m (all_rows (phase_at n m p.0)) p.1 r
-    → r ≡ get_or (plan n m) at (Constant 0 0)
-unfolding numbered_of phase_at
-plan_at n m at p r h q =
-    let has = in_table (table n m) p.0 p.1 q.order (omega (arith, h.phase, table_length n m)) q.there in
-    q.is ∙ sym ((plan_has n m at q.order (rw h.passed.left has)).is (Constant 0 0))
+  -- the plan's end by the sizes
+  pub plan_end : start sizes (length sizes) ≡ length (plan n m)
+  unfolding table_size
+  plan_end =
+      start_is sizes _ phases_sized (length sizes)
+      ∙ ap (λ (k : ℕ). sum_to k (λ u. phase_size (phase_in (table n m) u))) (long ∙ sym (table_length n m))
+      ∙ sym (plan_length n m)
 
--- the position behind it
-pub next_passed : (n m at : ℕ) (p : Within) → IsWithin n m at p → PhasesPassed (table n m) (at + 1) (p.1 + 1) p.0
-next_passed n m at p h = record { phases = h.passed.phases; left = omega (arith, h.passed.left) }
+  -- the plan's order at a place
+  pub plan_at : (k y : ℕ) (r : Order) → k < phase_count → IsAt n m (all_rows (phase_at n m k)) y r → r ≡ get_or (plan n m) (start sizes k + y) (Constant 0 0)
+  unfolding numbered_of phase_at phase_start
+  plan_at k y r l q =
+      let has = in_table (table n m) k y q.order (omega (arith, l, table_length n m)) q.there in
+      let e : start sizes k + y ≡ phase_start (table n m) k + y = ap (λ (z : ℕ). z + y) (start_is sizes _ phases_sized k) in
+      q.is ∙ sym ((plan_has n m (start sizes k + y) q.order (rw e has)).is (Constant 0 0))
 
--- ---- what the code read
-
--- t are the numbers of part q
-pub record PartFacts (p : Phase) (q : ℕ) (t : Columns) : Type 0 where
-  pub turn : t.1 ≡ (part_at p q).turn
-  pub size : t.0 * t.1 ≡ part_size p q
-  pub columns : t.0 ≡ (part_at p q).columns
-  pub small : SmallPart t
-
-pub part_facts : (p : Phase) (s : Shape) → IsShape p s → (q : ℕ) → q < length p.parts → (t : Columns) → PartIn s q t → PartFacts p q t
-part_facts p s h q l t e =
-    let f = part_is p s h q (omega (arith, h.parts, h.small.1)) t e in
-    record { turn = f.0.1; columns = f.0.0; small = f.1; size = rw (f.0.0, f.0.1) }
-
--- a phase's length from the code's numbers
-pub size_is : (p : Phase) (s : Shape) → IsShape p s → (row : ℕ) → row ≡ row_size p → s.0 * row ≡ phase_size p
-size_is p s h row e = rw (e, h.rows)
-
--- ---- the length of the table
-
--- the first k phases are counted
-pub record PhasesCounted (ps : List Phase) (size k : ℕ) : Type 0 where
-  pub phases : k ≤ length ps
-  pub counted : size ≡ phase_start ps k
-  pub bound : size ≤ k * phase_limit
-
-module _ (ps : List Phase) where
-  pub count_none : PhasesCounted ps 0 0
-  unfolding phase_start sum_to
-  count_none = record { phases = omega arith; counted = refl; bound = omega arith }
-
-  pub count_one : (size k more : ℕ) → PhasesCounted ps size k → k < length ps → more ≡ phase_size (phase_in ps k) → more ≤ phase_limit
-      → PhasesCounted ps (size + more) (k + 1)
-  unfolding phase_start sum_to
-  count_one size k more h l e b = record {
-    phases = omega arith;
-    counted =
-        (let w : size + more ≡ sum_to (suc k) (λ v. phase_size (phase_in ps v)) = omega (arith, h.counted, e) in w)
-        ∙ ap (λ (z : ℕ). sum_to z (λ v. phase_size (phase_in ps v))) (sym (add-one k));
-    bound = omega (arith, h.bound);
-  }
-
-  pub count_all : (size k : ℕ) → PhasesCounted ps size k → length ps ≤ k → size ≡ table_size ps
-  unfolding phase_start table_size
-  count_all size k h l =
-      let e : k ≡ length ps = omega (arith, h.phases) in
-      h.counted ∙ ap (λ (z : ℕ). sum_to z (λ v. phase_size (phase_in ps v))) e
+-- the first k sizes are added
+pub record Counted (sizes : List ℕ) (sum k : ℕ) : Type 0 where
+  pub is : sum ≡ start sizes k
+  pub bound : sum ≤ k * phase_limit

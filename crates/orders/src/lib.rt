@@ -2,7 +2,7 @@
 // An order is made over the names of cells first; one function then gives each name its cell.
 #![tactic(auto)]
 
-ghost use Rattle.std.specs.Prelude.{◌≡◌, length};
+ghost use Rattle.std.specs.Prelude.{◌≡◌, length, IfOk};
 ghost use Rattle.definitions.specs.Answers.{refusal_of, given_or};
 ghost use Rattle.definitions.specs.Calls.{counts_refusal};
 ghost use Rattle.definitions.specs.Plan.{asked, ask_refusal, total, write_refusal, write_counts, write_slice};
@@ -10,20 +10,17 @@ ghost use Rattle.plan.specs.Plan.{plan};
 ghost use Rattle.orders.specs.Answer.{answer_of, counts_of, SamePlan};
 ghost use Rattle.orders.specs.Runs.{stepped_plan};
 
-use crate::layout::tables_of;
-use crate::run::run_phases;
-use crate::walk::{length_of, order_in};
-use crate::write::{judge_room, write_from};
+use crate::tables::Tables;
+use crate::write::judge_room;
 use definitions::{Order, Reason, Verdict};
-use judging::judge_counts;
 
 mod blocks;
-mod cells;
-mod layout;
 mod names;
 mod run;
 mod sets;
+mod shape;
 mod table;
+mod tables;
 mod walk;
 mod write;
 
@@ -49,17 +46,22 @@ impl Position {
         Position { n, m, at: 0 }
     }
 
-    // 13 after the counts: a position past the total.
+    // The tables of the plan, for a position that is not refused: 13, after the counts, is one past the total.
+    fn tables(self) -> Result<Tables, Reason>
+        ensures refusal { refusal_of result ≡ ask_refusal plan self.n self.m self.at }
+        ensures counts { IfOk result (λ tables. (tables.counts.n ≡ self.n) × (tables.counts.m ≡ self.m)) }
+    {
+        let tables = Tables::judged(self.n, self.m)?;
+        if tables.length() < self.at {
+            return Err(Reason::Position);
+        }
+        Ok(tables)
+    }
+
     pub fn judge(self) -> Verdict
         ensures { refusal_of result ≡ ask_refusal plan self.n self.m self.at }
     {
-        let n = self.n;
-        let m = self.m;
-        judge_counts(n, m)?;
-        let tables = tables_of(n, m);
-        if length_of(n, m, &tables) < self.at {
-            return Err(Reason::Position);
-        }
+        self.tables()?;
         Ok(())
     }
 
@@ -68,16 +70,17 @@ impl Position {
         ensures answer { answer_of result ≡ asked plan self.n self.m self.at }
         ensures same { SamePlan self.n self.m result }
     {
-        self.judge()?;
-        let n = self.n;
-        let m = self.m;
-        let at = self.at;
-        let tables = tables_of(n, m);
-        if length_of(n, m, &tables) <= at {
+        let tables = self.tables()?;
+        if tables.length() <= self.at {
             return Ok(Asked::Ended);
         }
-        let order = order_in(n, m, &tables, at);
-        Ok(Asked::Order(order, Position { n, m, at: at + 1 }))
+        let order = tables.order_at(self.at);
+        let next = Position {
+            n: self.n,
+            m: self.m,
+            at: self.at + 1,
+        };
+        Ok(Asked::Order(order, next))
     }
 }
 
@@ -90,9 +93,8 @@ impl Plan {
         ensures refusal { refusal_of result ≡ counts_refusal n m }
         ensures count { given_or 0 result ≡ total plan n m }
     {
-        judge_counts(n, m)?;
-        let tables = tables_of(n, m);
-        Ok(length_of(n, m, &tables))
+        let tables = Tables::judged(n, m)?;
+        Ok(tables.length())
     }
 }
 
@@ -102,10 +104,9 @@ pub fn run_plan(n: usize, m: usize, sheet: &mut [u32]) -> Result<usize, Reason>
     ensures count { given_or 0 result ≡ total plan n m }
     ensures cells { sheet.new ≡ stepped_plan plan n m sheet.old }
 {
-    judge_counts(n, m)?;
-    let tables = tables_of(n, m);
-    run_phases(n, m, &tables, sheet);
-    Ok(length_of(n, m, &tables))
+    let tables = Tables::judged(n, m)?;
+    tables.run(sheet);
+    Ok(tables.length())
 }
 
 // What was written: bytes, orders, and the position after them.
@@ -122,9 +123,8 @@ pub fn write_plan(n: usize, m: usize, at: usize, out: &mut [u8]) -> Result<Writt
     ensures counts { counts_of result ≡ write_counts plan n m at (length out.old) }
     ensures slice { out.new ≡ write_slice plan n m at out.old }
 {
-    judge_counts(n, m)?;
-    let tables = tables_of(n, m);
-    let total = length_of(n, m, &tables);
+    let tables = Tables::judged(n, m)?;
+    let total = tables.length();
     judge_room(total, at, out.len())?;
-    Ok(write_from(n, m, &tables, total, at, out))
+    Ok(tables.write(total, at, out))
 }

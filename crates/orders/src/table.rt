@@ -1,11 +1,10 @@
 // The table of the plan's phases: how often each loops, and the order at a place of it, over names.
 ghost use Rattle.std.specs.Prelude.{◌≡◌, ◌*◌, ◌≤◌, ◌<◌};
 ghost use Rattle.definitions.specs.Limits.{pool_limit};
-ghost use Rattle.laws.specs.Sizes.{Counts};
 ghost use Rattle.plan.specs.Names.{family_count};
 ghost use Rattle.orders.specs.Walk.{name_at};
 ghost use Rattle.plan.specs.Table.{scratch_count, phase_at, phase_count, demand_phase, cut_phase, size_before_phase, rank_phase, placement_phase, slack_phase, line_phase, highest_offer_phase};
-ghost use Rattle.orders.specs.Shaped.{IsShape, PartIn, InPhase, flat_in};
+ghost use Rattle.orders.specs.Shaped.{IsShape, InPhase, flat_in};
 
 use crate::blocks::{
     amount_order, cost_turn, cut_turn, demand_turn, gain_turn, highest_offer_turn, offer_order,
@@ -13,86 +12,47 @@ use crate::blocks::{
 };
 use crate::names::*;
 use crate::sets::{lowest_pool, subset_count};
-use definitions::Limits;
+use crate::shape::{NONE, ONE, Shape, many};
+use definitions::{Counts, Limits};
 
-// The columns of a part of a phase's row, and how many orders each has.
-#[derive(Clone, Copy)]
-pub struct Columns(pub usize, pub usize);
-
-// A phase: how many rows, how many parts a row has, then for each of four parts its columns and how many orders each has.
-#[derive(Clone, Copy)]
-pub struct Shape(
-    pub usize,
-    pub usize,
-    pub usize,
-    pub usize,
-    pub usize,
-    pub usize,
-    pub usize,
-    pub usize,
-    pub usize,
-    pub usize,
-);
-
-// How many lines there are.
-fn line_count(m: usize) -> usize
-    requires { m ≤ pool_limit }
-    ensures { (result ≡ m * m) × (result ≤ pool_limit * pool_limit) }
-{
-    m * m
-}
-
-// The numbers of phase k, for so many scratch cells.
-pub fn shape_of(n: usize, m: usize, scratch: usize, k: usize) -> Shape
-    requires counts { Counts n m }
-    requires scratch_value { scratch ≡ scratch_count n m }
+// The shape of phase k, for so many scratch cells.
+#[tactic(auto, using(crate::specs::Shaped::shape_known), unfolding(plan::specs::Table::phase_at, plan::specs::Table::table, plan::specs::Table::work))]
+pub fn shape_of(counts: Counts, scratch: usize, k: usize) -> Shape
+    requires scratch_value { scratch ≡ scratch_count counts.n counts.m }
     requires k_lt_phase_count { k < phase_count }
-    ensures { IsShape (phase_at n m k) result }
+    ensures { IsShape (phase_at counts.n counts.m k) result }
 {
+    let n = counts.n;
+    let m = counts.m;
+    let lines = counts.lines();
     let sets = subset_count(m);
-    let lines = line_count(m);
-    let cut = 1 + lines;
-    let gains = m * 2;
-    let gain = 1 + gains;
     match k {
-        0 => Shape(1, 1, 1, 1, 0, 0, 0, 0, 0, 0), // units
-        1 => Shape(1, 1, 1, 1, 0, 0, 0, 0, 0, 0), // shifts
-        2 => Shape(m, 1, 1, 1, 0, 0, 0, 0, 0, 0), // pool numbers
-        3 => Shape(n, 1, 1, 1, 0, 0, 0, 0, 0, 0), // sides
-        4 => Shape(n, 1, 1, 3, 0, 0, 0, 0, 0, 0), // sizes
-        5 => Shape(n, 1, 1, 1, 0, 0, 0, 0, 0, 0), // positive prices
-        6 => Shape(n, 1, 1, 1, 0, 0, 0, 0, 0, 0), // doubles
-        7 => Shape(n, 1, 1, 1, 0, 0, 0, 0, 0, 0), // keys
-        8 => Shape(n, 1, 1, 1, 0, 0, 0, 0, 0, 0), // nexts
-        9 => Shape(n, 1, m, 1, 0, 0, 0, 0, 0, 0), // memberships
-        10 => Shape(n, 1, m, 1, 0, 0, 0, 0, 0, 0), // pool sizes
-        11 => Shape(m, 2, 1, 1, n, 2, 0, 0, 0, 0), // demands
-        12 => Shape(1, 2, sets, 1, sets, cut, 0, 0, 0, 0), // cuts
-        13 => Shape(n, 2, m, 1, n, gain, 0, 0, 0, 0), // sizes before
-        14 => Shape(n, 3, sets, 1, 1, 1, sets, 5, 0, 0), // ranks before
-        15 => Shape(n, 1, m, 1, 0, 0, 0, 0, 0, 0), // sizes with
-        16 => Shape(n, 3, sets, 1, 1, 1, sets, 5, 0, 0), // ranks with
-        17 => Shape(n, 1, 1, 1, 0, 0, 0, 0, 0, 0), // uses
-        18 => Shape(n, 1, 1, 4, 0, 0, 0, 0, 0, 0), // amounts
-        19 => Shape(m, 2, 1, 1, n, 2, 0, 0, 0, 0), // placements
-        20 => Shape(1, 2, sets, 1, sets, 1, 0, 0, 0, 0), // slacks
-        21 => Shape(lines, 4, 1, 1, sets, 4, 1, 1, sets, 1), // flows
-        22 => Shape(n, 1, 1, 4, 0, 0, 0, 0, 0, 0), // offers
-        23 => Shape(m, 2, 1, 1, n, 5, 0, 0, 0, 0), // highest offers
-        24 => Shape(m, 1, 1, 3, 0, 0, 0, 0, 0, 0), // prices
-        25.. => Shape(1, 1, scratch, 1, 0, 0, 0, 0, 0, 0), // zeros
-    }
-}
-
-// Part q of a phase's row.
-pub fn part_of(s: Shape, q: usize) -> Columns
-    ensures { PartIn s q result }
-{
-    match q {
-        0 => Columns(s.2, s.3),
-        1 => Columns(s.4, s.5),
-        2 => Columns(s.6, s.7),
-        3.. => Columns(s.8, s.9),
+        0 => Shape::new(1, [ONE, NONE, NONE, NONE]), // units
+        1 => Shape::new(1, [ONE, NONE, NONE, NONE]), // shifts
+        2 => Shape::new(m, [ONE, NONE, NONE, NONE]), // pool numbers
+        3 => Shape::new(n, [ONE, NONE, NONE, NONE]), // sides
+        4 => Shape::new(n, [many(1, 3), NONE, NONE, NONE]), // sizes
+        5 => Shape::new(n, [ONE, NONE, NONE, NONE]), // positive prices
+        6 => Shape::new(n, [ONE, NONE, NONE, NONE]), // doubles
+        7 => Shape::new(n, [ONE, NONE, NONE, NONE]), // keys
+        8 => Shape::new(n, [ONE, NONE, NONE, NONE]), // nexts
+        9 => Shape::new(n, [many(m, 1), NONE, NONE, NONE]), // memberships
+        10 => Shape::new(n, [many(m, 1), NONE, NONE, NONE]), // pool sizes
+        11 => Shape::new(m, [ONE, many(n, 2), NONE, NONE]), // demands
+        12 => Shape::new(1, [many(sets, 1), many(sets, 1 + lines), NONE, NONE]), // cuts
+        13 => Shape::new(n, [many(m, 1), many(n, 1 + m * 2), NONE, NONE]), // sizes before
+        14 => Shape::new(n, [many(sets, 1), ONE, many(sets, 5), NONE]), // ranks before
+        15 => Shape::new(n, [many(m, 1), NONE, NONE, NONE]), // sizes with
+        16 => Shape::new(n, [many(sets, 1), ONE, many(sets, 5), NONE]), // ranks with
+        17 => Shape::new(n, [ONE, NONE, NONE, NONE]), // uses
+        18 => Shape::new(n, [many(1, 4), NONE, NONE, NONE]), // amounts
+        19 => Shape::new(m, [ONE, many(n, 2), NONE, NONE]), // placements
+        20 => Shape::new(1, [many(sets, 1), many(sets, 1), NONE, NONE]), // slacks
+        21 => Shape::new(lines, [ONE, many(sets, 4), ONE, many(sets, 1)]), // flows
+        22 => Shape::new(n, [many(1, 4), NONE, NONE, NONE]), // offers
+        23 => Shape::new(m, [ONE, many(n, 5), NONE, NONE]), // highest offers
+        24 => Shape::new(m, [many(1, 3), NONE, NONE, NONE]), // prices
+        25.. => Shape::new(1, [many(scratch, 1), NONE, NONE, NONE]), // zeros
     }
 }
 
@@ -210,12 +170,13 @@ fn highest_offers(n: usize, m: usize, i: usize, q: usize, j: usize, r: usize) ->
 }
 
 // The order at a place of phase k.
-pub fn order_of(n: usize, m: usize, k: usize, i: usize, q: usize, j: usize, r: usize) -> NamedOrder
-    requires counts { Counts n m }
+pub fn order_of(counts: Counts, k: usize, i: usize, q: usize, j: usize, r: usize) -> NamedOrder
     requires k_lt_phase_count { k < phase_count }
-    requires in_phase { InPhase (phase_at n m k) i q j r }
-    ensures { result ≡ flat_in (phase_at n m k) i q j r }
+    requires in_phase { InPhase (phase_at counts.n counts.m k) i q j r }
+    ensures { result ≡ flat_in (phase_at counts.n counts.m k) i q j r }
 {
+    let n = counts.n;
+    let m = counts.m;
     match k {
         0 => NamedOrder(CONSTANT, UNITS, i, 0, 1, 0, 0, 0, 0, 0),
         1 => NamedOrder(CONSTANT, SHIFTS, i, 0, SHIFT, 0, 0, 0, 0, 0),

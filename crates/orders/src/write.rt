@@ -3,13 +3,12 @@ ghost use Rattle.std.specs.Prelude.{◌≡◌, ◌≤◌, length};
 ghost use Rattle.definitions.specs.Answers.{first, refusal_of};
 ghost use Rattle.definitions.specs.Plan.{bytes_written, written_counts, room_refusal, over};
 ghost use Rattle.plan.specs.Plan.{plan};
-ghost use Rattle.orders.specs.Tables.{IsTables};
 ghost use Rattle.orders.specs.Answer.{written_of};
 ghost use Rattle.orders.specs.Calls.{past_refusal};
 
 use crate::Written;
-use crate::layout::TABLES;
-use crate::walk::{order_within, phase_from};
+use crate::tables::Tables;
+use crate::walk::{Within, settled};
 use codec::write_order;
 use definitions::{Reason, Verdict};
 
@@ -29,41 +28,36 @@ pub fn judge_room(total: usize, at: usize, room: usize) -> Verdict
     Ok(())
 }
 
-// As many whole orders as fit, by tables made before. The phase that the next order is in is kept from order to order.
-pub fn write_from(
-    n: usize,
-    m: usize,
-    tables: &[usize; TABLES],
-    total: usize,
-    at: usize,
-    out: &mut [u8],
-) -> Written
-    requires tables { IsTables n m tables.now }
-    requires total_value { total ≡ length (plan n m) }
-    requires at_le_total { at ≤ total }
-    ensures counts { written_of result ≡ written_counts plan n m at (length out.old) }
-    ensures slice { out.new ≡ over (bytes_written plan n m at (length out.old)) out.old }
-{
-    let mut bytes = 0;
-    let mut k = 0;
-    let mut x = at;
-    for next in at..total {
-        let place = phase_from(n, m, tables, k, x);
-        let order = order_within(n, m, tables, place);
-        let Some(size) = write_order(out, bytes, order) else {
-            return Written {
-                bytes,
-                orders: next - at,
-                next,
-            };
+impl Tables {
+    // As many whole orders as fit, from a position on. The phase that the next order is in is kept from order to order.
+    pub fn write(&self, total: usize, at: usize, out: &mut [u8]) -> Written
+        requires total_value { total ≡ length (plan self.now.counts.n self.now.counts.m) }
+        requires at_le_total { at ≤ total }
+        ensures counts { written_of result ≡ written_counts plan self.now.counts.n self.now.counts.m at (length out.old) }
+        ensures slice { out.new ≡ over (bytes_written plan self.now.counts.n self.now.counts.m at (length out.old)) out.old }
+    {
+        let mut bytes = 0;
+        let mut place = Within {
+            stretch: 0,
+            before: at,
         };
-        bytes += size;
-        k = place.0;
-        x = place.1 + 1;
-    }
-    Written {
-        bytes,
-        orders: total - at,
-        next: total,
+        for next in at..total {
+            place = settled(&self.sizes, place);
+            let order = self.order_within(place);
+            let Some(size) = write_order(out, bytes, order) else {
+                return Written {
+                    bytes,
+                    orders: next - at,
+                    next,
+                };
+            };
+            bytes += size;
+            place.before += 1;
+        }
+        Written {
+            bytes,
+            orders: total - at,
+            next: total,
+        }
     }
 }

@@ -22,7 +22,7 @@ use text::Reader;
 // The bytes that are read at once.
 const PIECE: usize = 4_096;
 
-// One turn, by how many bytes a read put at the start of piece: 0 at the end of the input, none where it failed.
+// One turn, by how many bytes a read put at the start of piece, all of it at most: 0 at the end of the input, none where it failed.
 // It leads on to the next turn's reader, or the text is over.
 fn take_turn(
     reader: Reader,
@@ -30,14 +30,16 @@ fn take_turn(
     piece: &[u8],
     numbers: &mut [i32; Reader::NUMBERS],
 ) -> ControlFlow<Input, Reader>
-    requires { IfSome read (λ size. size ≤ length piece.now) }
     ensures value { result ≡ (turned (read_so_far reader numbers.old) read piece.now).turn }
     ensures numbers_after { numbers.new ≡ (turned (read_so_far reader numbers.old) read piece.now).numbers }
 {
     match read {
         None => ControlFlow::Break(reader.break_off(numbers)),
         Some(0) => ControlFlow::Break(reader.finish(numbers)),
-        Some(size) => ControlFlow::Continue(reader.feed(&piece[..size], numbers)),
+        Some(size) => {
+            let end = size.min(piece.len());
+            ControlFlow::Continue(reader.feed(&piece[..end], numbers))
+        }
     }
 }
 

@@ -1,6 +1,7 @@
 -- What changes hands in a pool: the numbers that the code gives (`ChangesHands`), and how it sums them, one side of the bids, a column or a row of
 -- the lines.
-use Rattle.std.proofs.Common.{ℕ, suc, ◌+◌, ◌*◌, ◌^◌, ◌≤◌, ◌<◌, ◌≡◌, refl, Bool, true, not, ◌&&◌, List, eqb, ltb, leb, length, get_or, ℤ, pos, nat_abs, ap, arith, ltb-true, leb-true, eqb-true, lt-ltb, le-leb, eq-eqb}
+use Rattle.std.specs.Prelude.{ℕ, suc, ◌+◌, ◌*◌, ◌^◌, ◌≤◌, ◌<◌, ◌≡◌, refl, Bool, true, not, ◌&&◌, List, eqb, ltb, leb, length, get_or, ℤ, pos, nat_abs}
+use Rattle.std.proofs.Common.{ap, arith, ltb-true, leb-true, eqb-true, lt-ltb, le-leb, eq-eqb}
 use Rattle.std.specs.Int.Signed.{lt_z}
 use Rattle.sums.specs.declared.pools.Side.{Side}
 use Rattle.sums.specs.declared.pools.Side.TheVariants.{Sales, Purchases}

@@ -1,6 +1,7 @@
 -- Accepted amounts whose welfare can be summed in 64 bits, whatever the prices, and that welfare (`summed_welfare`): of a book within its limits it is
 -- formula (1), from amounts on a sheet (`summed_welfare_is`) and from amounts sent (`sent_welfare_is`).
-use Rattle.std.proofs.Common.{ℕ, ◌*◌, ◌≤◌, ◌<◌, ◌≡◌, refl, Bool, true, cond, ◌&&◌, List, map, eqb, leb, length, get_or, ℤ, pos, nat_abs, Decides, EachIndex, sym, ap, ◌∙◌, arith, eq-eqb, eqb-true, le-leb, leb-true}
+use Rattle.std.specs.Prelude.{ℕ, ◌*◌, ◌≤◌, ◌<◌, ◌≡◌, refl, Bool, true, cond, ◌&&◌, List, map, eqb, leb, length, get_or, ℤ, pos, nat_abs, Decides, EachIndex}
+use Rattle.std.proofs.Common.{sym, ap, ◌∙◌, arith, eq-eqb, eqb-true, le-leb, leb-true}
 use Rattle.std.proofs.lemmas.List.{length-map}
 use Rattle.std.proofs.Math.ListN.{get_or-map}
 use Rattle.std.proofs.lemmas.Bool.Decides.{same_from_decides}

@@ -1,5 +1,6 @@
 -- Welfare is the sum, bid by bid, of price × accepted with the bid's side as its sign; its size is bounded, and the last law says that it fits an i64.
-use Rattle.std.proofs.Common.{ℕ, ◌*◌, ◌≤◌, ◌<◌, ◌≡◌, Bool, true, false, not, cond, ℤ, pos, neg_ℤ, nat_abs, ◌-ℤ◌, ◌*ℤ◌, sym, subst, ◌∙◌, arith, le_trans, mul-le-mul_right, SFits}
+use Rattle.std.specs.Prelude.{ℕ, ◌*◌, ◌≤◌, ◌<◌, ◌≡◌, Bool, true, false, not, cond, ℤ, pos, neg_ℤ, nat_abs, ◌-ℤ◌, ◌*ℤ◌}
+use Rattle.std.proofs.Common.{sym, subst, ◌∙◌, arith, le_trans, mul-le-mul_right, SFits}
 use Rattle.std.proofs.Math.IntN.{+ℤ_idl, +ℤ_idr}
 use Rattle.std.specs.Int.Signed.{lt_z}
 use Rattle.std.specs.Int.{w64}

@@ -10,7 +10,7 @@ ghost use Rattle.sums.specs.Pools.{TablesFit, ChangesHands, PoolSummed};
 ghost use Rattle.sums.specs.SummedWelfare.{summed_welfare};
 
 use crate::pools::{Side, carried, is_summable, side_in};
-use crate::values::{do_amounts_fit, sum_sizes, sum_values};
+use crate::values::{do_amounts_fit, sum_values, write_sizes};
 use definitions::Limits;
 
 mod pools;
@@ -75,6 +75,8 @@ pub fn welfare_sent(bids: &[i32], amounts: &[i32]) -> i64
         return 0;
     }
     // No heap: there is room for the sizes of as many amounts as a book has bids.
-    let mut sizes = [0u32; Limits::BIDS];
-    sum_sizes(bids, amounts, &mut sizes[..count])
+    let mut room = [0; Limits::BIDS];
+    let sizes = &mut room[..count];
+    write_sizes(amounts, sizes);
+    welfare(bids, sizes)
 }

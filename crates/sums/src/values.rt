@@ -1,10 +1,9 @@
-// The welfare of accepted amounts: whether it can be summed, its sum bid by bid, and that of amounts sent as signed numbers.
+// The welfare of accepted amounts: whether it can be summed, and its sum bid by bid; the sizes of amounts sent as signed numbers.
 ghost use Rattle.std.specs.Prelude.{◌≡◌, map, ◌≤◌, length, nat_abs};
 ghost use Rattle.definitions.specs.Limits.{quantity_limit};
 ghost use Rattle.sums.specs.Welfare.{signed_value};
 ghost use Rattle.sums.specs.SummedWelfare.{AmountsFit, amounts_small, amounts_fit, summed_welfare};
 
-use crate::welfare;
 use definitions::Limits;
 
 // Price × accepted of one bid: added for a purchase, taken off for a sale.
@@ -50,7 +49,7 @@ pub fn sum_values(bids: &[i32], accepted: &[u32]) -> i64
 }
 
 // Writes the sizes of numbers, one by one.
-fn write_sizes(numbers: &[i32], sizes: &mut [u32])
+pub fn write_sizes(numbers: &[i32], sizes: &mut [u32])
     requires { length sizes.old ≡ length numbers.now }
     ensures { sizes.new ≡ map nat_abs numbers.now }
 {
@@ -58,13 +57,4 @@ fn write_sizes(numbers: &[i32], sizes: &mut [u32])
         let number = numbers[i];
         *size = number.unsigned_abs();
     }
-}
-
-// The welfare of the sizes of amounts sent, for which the caller lends room.
-pub fn sum_sizes(bids: &[i32], amounts: &[i32], sizes: &mut [u32]) -> i64
-    requires { length sizes.old ≡ length amounts.now }
-    ensures { result ≡ summed_welfare bids.now (map nat_abs amounts.now) }
-{
-    write_sizes(amounts, sizes);
-    welfare(bids, sizes)
 }

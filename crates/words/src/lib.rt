@@ -1,4 +1,5 @@
 // The input as words of four bytes, lowest byte first, and the slices among them, each behind its length.
+// A slice is named by its position alone, beside the input: one value of both would be made anew for each slice, and say no more.
 // Every function here takes any input. Whether an input is that of a call is asked once, by `slices` or `slices_and_bytes`, before anything of it is used.
 #![tactic(auto)]
 

@@ -1,6 +1,5 @@
 -- `is_balanced` meets its contract: each turn tests one pool, whose sums are the definition's, since the tables fit.
-use Rattle.std.proofs.Common.{◌+◌, ◌≡◌, sym, ap₂, ◌∙◌, true, eqb, length}
-use borrow.Author.Tests.{eq-eqb, ne_eqb}
+use Rattle.std.proofs.Common.{◌+◌, ◌≡◌, sym, ap₂, ◌∙◌, true, eqb, length, eq-eqb, ne_eqb}
 use Rattle.definitions.specs.Book.{book_of}
 use Rattle.definitions.specs.Checks.{balanced_at}
 use Rattle.laws.specs.All.{all_to_begins, all_to_turn, all_to_fails}

@@ -18,32 +18,32 @@ use Rattle.orders.proofs.table.order_of.Goals.{Start}
 module _ (s : Start) (K : ℕ) (e : s.args.k ≡ K) where
   -- that phase
   abbrev phase : Phase
-  phase = phase_at s.args.n s.args.m K
+  phase = phase_at s.args.counts.n s.args.counts.m K
 
   -- the order asked for
   abbrev Is : NamedOrder → Type 0
-  Is o = o ≡ flat_in (phase_at s.args.n s.args.m s.args.k) s.args.i s.args.q s.args.j s.args.r
+  Is o = o ≡ flat_in (phase_at s.args.counts.n s.args.counts.m s.args.k) s.args.i s.args.q s.args.j s.args.r
 
   place : InPhase phase s.args.i s.args.q s.args.j s.args.r
-  place = known_place s.args.n s.args.m _ K _ _ _ _ e s.requires.in_phase
+  place = known_place s.args.counts.n s.args.counts.m _ K _ _ _ _ e s.requires.in_phase
 
   whole : (o : NamedOrder) → o ≡ flat_in phase s.args.i s.args.q s.args.j s.args.r → Is o
-  whole = known_order s.args.n s.args.m _ K _ _ _ _ e s.requires.in_phase
+  whole = known_order s.args.counts.n s.args.counts.m _ K _ _ _ _ e s.requires.in_phase
 
   -- where a row has one part
   turn : length phase.parts ≡ 1 → s.args.r < (part_at phase 0).turn
-  turn = first_turn s.args.n s.args.m _ K _ _ _ _ e s.requires.in_phase
+  turn = first_turn s.args.counts.n s.args.counts.m _ K _ _ _ _ e s.requires.in_phase
 
   first : length phase.parts ≡ 1 → (o : NamedOrder) → o ≡ made ((part_at phase 0).block s.args.i s.args.j) s.args.r → Is o
-  first = first_order s.args.n s.args.m _ K _ _ _ _ e s.requires.in_phase
+  first = first_order s.args.counts.n s.args.counts.m _ K _ _ _ _ e s.requires.in_phase
 
   only : length phase.parts ≡ 1 → (part_at phase 0).turn ≡ 1 → (o : NamedOrder)
       → o ≡ flat_of (get_or ((part_at phase 0).block s.args.i s.args.j) 0 (constant ZeroCell 0)) → Is o
-  only = only_order s.args.n s.args.m _ K _ _ _ _ e s.requires.in_phase
+  only = only_order s.args.counts.n s.args.counts.m _ K _ _ _ _ e s.requires.in_phase
 
 pub overflow_add-result : goal.overflow_add-result
 unfolding phase_at table work
-overflow_add-result c = omega (arith, (place c.before 2 c.in-2.is).row, c.requires.counts.pools.most)
+overflow_add-result c = omega (arith, (place c.before 2 c.in-2.is).row, c.args.counts.pools_fit)
 
 pub size_order-requires : goal.size_order-requires
 unfolding phase_at table work
