@@ -11,7 +11,7 @@ use Rattle.definitions.specs.Clearing.{Clearing}
 use Rattle.laws.specs.All.{all_to_ext, all_to_rows}
 use Rattle.laws.specs.Refusal.{test_passed, first_left, first_right}
 use Rattle.laws.specs.Sizes.{Counts, counted, tables_measured}
-use Rattle.laws.specs.Tests.{and_left, and_right}
+use Rattle.std.specs.Cmp.{first_so, second_so}
 use Rattle.sums.specs.BidsOnly.{bids_only, sold_of, bought_of, inflow_of, outflow_of}
 use Rattle.sums.specs.Pools.{TablesFit}
 
@@ -46,14 +46,14 @@ unfolding sent_refusal
 sent_sizes B amounts flows e =
     let sent = eqb amounts B.n && eqb flows (B.m * B.m) in
     let right = test_passed (tables_right B && sent) 3 0 (first_right (counts_refusal B.n B.m) _ e) in
-    let tables = tables_measured B.n B.m (length B.bids) (length B.capacities) (and_left (tables_right B) sent right) in
-    let numbers = and_right (tables_right B) sent right in
+    let tables = tables_measured B.n B.m (length B.bids) (length B.capacities) (first_so (tables_right B) sent right) in
+    let numbers = second_so (tables_right B) sent right in
     record {
       counts = counted B.n B.m (first_left (counts_refusal B.n B.m) _ e);
       bid_table = tables.0;
       capacity_table = tables.1;
-      amount_count = eqb-true _ _ (and_left (eqb amounts B.n) _ numbers);
-      flow_count = eqb-true _ _ (and_right (eqb amounts B.n) _ numbers);
+      amount_count = eqb-true _ _ (first_so (eqb amounts B.n) _ numbers);
+      flow_count = eqb-true _ _ (second_so (eqb amounts B.n) _ numbers);
     }
 
 module _ (B : Book) (amounts flows : List ℤ) (sizes : SentSizes B (length amounts) (length flows)) where

@@ -7,7 +7,7 @@ use Rattle.definitions.specs.Limits.{bid_limit, pool_limit}
 use Rattle.definitions.specs.Sheet.{result_count}
 use Rattle.definitions.specs.Answers.{is_none, none}
 use Rattle.definitions.specs.Calls.{results_refusal}
-use Rattle.laws.specs.Tests.{and_left, and_right}
+use Rattle.std.specs.Cmp.{first_so, second_so}
 use Rattle.laws.specs.Refusal.{is_none_lem}
 use Rattle.laws.specs.Sizes.{results_counted}
 use Rattle.listing.specs.declared.page.Page.{Page}
@@ -48,10 +48,10 @@ pub listable_facts : (n m results room : ℕ) → listable n m results room ≡ 
 unfolding listable
 listable_facts n m results room e =
     let judged = is_none (results_refusal n m results) in
-    let sizes = results_counted n m results (is_none_lem (results_refusal n m results) (and_left judged _ e)) in
+    let sizes = results_counted n m results (is_none_lem (results_refusal n m results) (first_so judged _ e)) in
     record {
       bids = sizes.counts.bids;
       pools = sizes.counts.pools.most;
       count = sizes.count;
-      roomy = leb-true _ _ (and_right judged _ e);
+      roomy = leb-true _ _ (second_so judged _ e);
     }

@@ -11,7 +11,7 @@ use Rattle.definitions.specs.Book.{Book, pool, quantity}
 use Rattle.definitions.specs.Checks.{amount_sent, clearing_of}
 use Rattle.definitions.specs.Clearing.{Clearing, sold, bought, inflow, outflow}
 use Rattle.laws.specs.Sum.{sum_ext}
-use Rattle.laws.specs.Tests.{and_left, and_right}
+use Rattle.std.specs.Cmp.{first_so, second_so}
 use Rattle.sums.specs.BidsOnly.{bids_only}
 
 -- ---- tables that fit
@@ -31,16 +31,16 @@ pub record TablesFit (m bids amounts flows : ℕ) : Type 0 where
 pub summable_fits : (m p bids amounts flows : ℕ) → summable m p bids amounts flows ≡ true → TablesFit m bids amounts flows × (p < m)
 unfolding summable
 summable_fits m p bids amounts flows e =
-    let by_pools_lem = and_right (leb amounts bid_limit) _ e in
-    let by_pool = and_right (leb m pool_limit) _ by_pools_lem in
-    let by-tables = and_right (ltb p m) _ by_pool in (
+    let by_pools_lem = second_so (leb amounts bid_limit) _ e in
+    let by_pool = second_so (leb m pool_limit) _ by_pools_lem in
+    let by-tables = second_so (ltb p m) _ by_pool in (
       record {
-        few_bids = leb-true _ _ (and_left (leb amounts bid_limit) _ e);
-        few_pools = leb-true _ _ (and_left (leb m pool_limit) _ by_pools_lem);
-        bid_table = eqb-true _ _ (and_left (eqb bids (bid_numbers * amounts)) _ by-tables);
-        lines = eqb-true _ _ (and_right (eqb bids (bid_numbers * amounts)) _ by-tables);
+        few_bids = leb-true _ _ (first_so (leb amounts bid_limit) _ e);
+        few_pools = leb-true _ _ (first_so (leb m pool_limit) _ by_pools_lem);
+        bid_table = eqb-true _ _ (first_so (eqb bids (bid_numbers * amounts)) _ by-tables);
+        lines = eqb-true _ _ (second_so (eqb bids (bid_numbers * amounts)) _ by-tables);
       },
-      ltb-true _ _ (and_left (ltb p m) _ by_pool),
+      ltb-true _ _ (first_so (ltb p m) _ by_pool),
     )
 
 pub fits_summable : (m p bids amounts flows : ℕ) → TablesFit m bids amounts flows → p < m → summable m p bids amounts flows ≡ true

@@ -12,7 +12,7 @@ use Rattle.definitions.specs.Checks.{amount_sent}
 use Rattle.definitions.specs.Clearing.{welfare}
 use Rattle.laws.specs.All.{all_to_at, all_to_made}
 use Rattle.laws.specs.Sum.{sum_z_ext}
-use Rattle.laws.specs.Tests.{and_left, and_right}
+use Rattle.std.specs.Cmp.{first_so, second_so}
 use Rattle.sums.specs.BidsOnly.{bids_only, welfare_of}
 use Rattle.sums.specs.Welfare.{signed_value, welfare_by_bid}
 
@@ -70,10 +70,10 @@ pub record AmountsFit (bids : List ℤ) (accepted : List ℕ) : Type 0 where
 pub amounts_fit_lem : (bids : List ℤ) (accepted : List ℕ) → amounts_fit bids accepted ≡ true → AmountsFit bids accepted
 unfolding amounts_fit amounts_small
 amounts_fit_lem bids accepted e =
-    let rest = and_right (leb (length accepted) bid_limit) _ e in
+    let rest = second_so (leb (length accepted) bid_limit) _ e in
     let table = eqb (length bids) (bid_numbers * length accepted) in
     record {
-      few = leb-true _ _ (and_left (leb (length accepted) bid_limit) _ e);
-      table = eqb-true _ _ (and_left table _ rest);
-      small = λ i l. leb-true _ _ (all_to_at (length accepted) _ (and_right table _ rest) i l);
+      few = leb-true _ _ (first_so (leb (length accepted) bid_limit) _ e);
+      table = eqb-true _ _ (first_so table _ rest);
+      small = λ i l. leb-true _ _ (all_to_at (length accepted) _ (second_so table _ rest) i l);
     }

@@ -33,11 +33,6 @@ pub on_not : (t : Bool) (v : ℕ) → on t v + on (not t) v ≡ v
 on_not true v = omega arith
 on_not false v = omega arith
 
-pub iff : (x y : Bool) → (x ≡ true → y ≡ true) → (y ≡ true → x ≡ true) → x ≡ y
-iff true y h k = sym (h refl)
-iff false true h k = k refl
-iff false false h k = refl
-
 pub or_cases : (s t : Bool) → (s || t) ≡ true → (s ≡ true) ⊎ (t ≡ true)
 or_cases true t e = inl refl
 or_cases false t e = inr e

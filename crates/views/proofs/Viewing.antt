@@ -6,7 +6,7 @@ use Rattle.definitions.specs.Calls.{results_refusal, length_refusal}
 use Rattle.definitions.specs.Views.{is_among, holder_refusal, view_refusal}
 use Rattle.laws.specs.Refusal.{test_passed, first_left, first_right}
 use Rattle.laws.specs.Sizes.{results_counted}
-use Rattle.laws.specs.Tests.{and_left, and_right}
+use Rattle.std.specs.Cmp.{first_so, second_so}
 use Rattle.views.specs.Places.{view_begins, view_keeps, view_clears}
 
 -- the library's search for a holder
@@ -23,13 +23,13 @@ module _ (n m : ℕ) (table : List ℕ) (holder results view : ℕ) (passed : no
       test_passed test 3 0 (first_left (length_refusal test) (holder_refusal table holder) (first_right (results_refusal n m results) _ (sym passed)))
 
   pub as_long : view ≡ results
-  as_long = eqb-true _ _ (and_right (eqb (length table) n) _ lengths)
+  as_long = eqb-true _ _ (second_so (eqb (length table) n) _ lengths)
 
   -- each bid has a place among the results
   pub bids_shown : length table ≤ results
   unfolding view_refusal
   bids_shown =
-      let bids : length table ≡ n = eqb-true _ _ (and_left (eqb (length table) n) _ lengths) in
+      let bids : length table ≡ n = eqb-true _ _ (first_so (eqb (length table) n) _ lengths) in
       let counted = results_counted n m results (first_left (results_refusal n m results) _ (sym passed)) in
       omega (arith, counted.count)
 
