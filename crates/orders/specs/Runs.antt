@@ -22,7 +22,7 @@ use Rattle.plan.specs.Table.{Phase, table}
 use Rattle.plan.specs.Plan.{cell_of, plan}
 use Rattle.plan.proofs.PlanOrders.{plan_orders}
 use Rattle.orders.specs.Limits.{part_limit}
-use Rattle.orders.specs.Walk.{named, numbered_of}
+use Rattle.orders.specs.Named.{made, numbered_of}
 
 -- ---- a plan's run on any slice
 
@@ -80,8 +80,8 @@ module _ (n m : ℕ) where
   -- ---- a block, one more of its orders run
 
   pub step_one : (block : List (OrderOn Name)) (start s t : List ℕ) (count : ℕ) → s ≡ ran_of (take count block) start → count < length block
-      → t ≡ stepped s (numbered_of n m (named block count)) → t ≡ ran_of (take (count + 1) block) start
-  unfolding ran_of stepped_all numbered_of named
+      → t ≡ stepped s (numbered_of n m (made block count)) → t ≡ ran_of (take (count + 1) block) start
+  unfolding ran_of stepped_all numbered_of made
   step_one block start s t count h l g =
       let o : OrderOn Name = get_or block count (constant ZeroCell 0) in
       g

@@ -14,7 +14,8 @@ use Rattle.plan.specs.Phased.{PartOf, no_part, no_phase, part_at, part_size, row
 use Rattle.plan.specs.Table.{Phase, table, phase_at, phase_count, table_length}
 use Rattle.orders.specs.Limits.{phase_limit}
 use Rattle.orders.specs.declared.shape.Shape.{Shape}
-use Rattle.orders.specs.Walk.{numbered_of}
+use Rattle.orders.specs.declared.shape.Spot.{Spot}
+use Rattle.orders.specs.Named.{numbered_of}
 use Rattle.orders.specs.Shaped.{IsShape, part_number, no_columns, part_there, four, InPhase, order_in, has_order, positive_right}
 use Rattle.orders.specs.Tables.{IsSizes}
 use Rattle.orders.specs.Stretches.{start, start_is, from_start}
@@ -37,17 +38,21 @@ module _ (p : Phase) (x q y turn : ℕ) (h : Lies p x q y) (e : turn ≡ (part_a
   some_turn = rw e (positive_right (part_at p q).columns (part_at p q).turn y h.inside)
 
   module _ (i : ℕ) (a : i < p.rows) where
-    pub found : InPhase p i q (y / turn) (y % turn)
+    -- that place
+    abbrev spot : Spot
+    spot = record { row = i; part = q; column = y / turn; turn = y % turn }
+
+    pub found : InPhase p spot
     found =
         let column : y / turn < (part_at p q).columns = (div-lt_iff_lt-mul some_turn).1 (rw (← e) at h.inside) in
         record { row = a; part = part_there p q (y / turn) column; column = column; place = rw (← e) (mod-lt y some_turn) }
 
-    pub found_at : (n m : ℕ) (r : Order) → r ≡ numbered_of n m (order_in p i q (y / turn) (y % turn)) → IsAt n m (row_of p i) x r
+    pub found_at : (n m : ℕ) (r : Order) → r ≡ numbered_of n m (order_in p spot) → IsAt n m (row_of p i) x r
     found_at n m r f =
-        let has = in_row p i q (y / turn) (y % turn) _ found.part found.column (has_order p i q (y / turn) (y % turn) found) in
+        let has = in_row p i q (y / turn) (y % turn) _ found.part found.column (has_order p spot found) in
         let w : x ≡ part_start p q + ((y / turn) * (part_at p q).turn + y % turn)
         = h.left ∙ ap (λ (z : ℕ). part_start p q + z) (sym (div-add-mod' y turn) ∙ ap (λ (z : ℕ). (y / turn) * z + y % turn) e) in
-        record { order = order_in p i q (y / turn) (y % turn); there = rw w has; is = f }
+        record { order = order_in p spot; there = rw w has; is = f }
 
 -- the sizes of the four parts
 module _ (p : Phase) (s : Shape) (h : IsShape p s) (sizes : List ℕ) (e : sizes ≡ part_number s 0 ∷ part_number s 1 ∷ part_number s 2 ∷ part_number s 3 ∷ []) where
