@@ -1,7 +1,7 @@
 -- Orders over names as the code makes them are the plan's (`named_of`); a block's order at a turn (`made`), orders that a test chooses, and the machine's
 -- order for each.
-use Rattle.std.specs.Prelude.{◌≡◌, refl, ◌≢◌, Bool, true, false, cond, List, [], ◌∷◌, ℕ, suc, ◌-◌, ◌≤◌, ◌<◌, get_or, eqb}
-use Rattle.std.proofs.Common.{sym, ap, ◌∙◌, arith, lt-ltb, le-ltb, eq-eqb, ne_eqb}
+use Rattle.std.specs.Prelude.{◌≡◌, refl, ◌≢◌, Bool, true, false, cond, List, [], ◌∷◌, ℕ, suc, ◌-◌, ◌≤◌, get_or, eqb}
+use Rattle.std.proofs.Common.{sym, ap, ◌∙◌, arith, eq-eqb, ne_eqb}
 use Rattle.definitions.specs.declared.Order.{Order}
 use Rattle.orders.specs.declared.names.Name as code
 use Rattle.orders.specs.declared.names.Operation as code_operation
@@ -11,7 +11,7 @@ use Rattle.orders.specs.declared.names.NamedOrder.TheVariants as orders
 use Rattle.plan.specs.Orders.{OrderOn, order_of, renamed, constant, operate, sum, difference, product, less, Operation, adding, subtracting, multiplying, comparing, equating}
 use Rattle.plan.specs.Subsets.{leaves, lowest, others}
 use Rattle.plan.specs.Running.{subset_order, subset_block}
-use Rattle.plan.specs.Blocks.{test_at, test_order, cut_turn, rest_cell, rest_turn, taken_cell, take_turn}
+use Rattle.plan.specs.Blocks.{cut_turn, taken_cell, take_turn}
 use Rattle.plan.specs.Names.{Name, at, ZeroCell, Temporary, Capacity, Cut, Slack, Subset}
 use Rattle.plan.specs.Plan.{cell_of}
 
@@ -63,24 +63,10 @@ moved d a low high =
 
 -- ---- orders that a test chooses
 
-module _ (i j : ℕ) where
-  pub test_low : j < i → test_at true false i j ≡ test_order i j
-  test_low l = rw (lt-ltb j i l)
-
-  pub test_high : i < j → test_at false true i j ≡ test_order i j
-  test_high l = rw (le-ltb j i (omega arith), lt-ltb i j l)
-
-  pub test_same : i ≤ j → j ≤ i → test_at false false i j ≡ test_order i j
-  test_same a b = rw (le-ltb j i a, le-ltb i j b)
-
 module _ (s a b : ℕ) where
   pub cut_chosen : (x : Bool) → x ≡ leaves s a b → sum (Cut s) (Cut s) (cond x (Capacity a b) ZeroCell) ≡ made (cut_turn s a b) 0
   unfolding made
   cut_chosen x e = rw e
-
-  pub rest_chosen : (x : Bool) (r : ℕ) → x ≡ leaves s a b
-      → made (moved (Temporary 2) (rest_cell x s a b) (rest_cell x s a b) (Temporary 2)) r ≡ made (rest_turn a b s) r
-  rest_chosen x r e = rw e
 
   pub take_chosen : (l : ℕ) (x y : Bool) → x ≡ leaves s a b → y ≡ leaves s b a
       → difference (Slack s) (Slack s) (taken_cell x y l) ≡ made (take_turn l a b s) 0

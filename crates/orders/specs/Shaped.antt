@@ -1,7 +1,6 @@
 -- What the code knows of a phase: its numbers (`IsShape`), a place in it (`InPhase`), the order there (`order_in`).
 use Rattle.std.specs.Prelude.{◌≡◌, ◌≢◌, List, [], ◌∷◌, ℕ, zero, suc, ◌+◌, ◌*◌, ◌-◌, ◌%◌, ◌/◌, ◌≤◌, ◌<◌, length, get_or}
-use Rattle.std.proofs.Math.Path.{refl, ap}
-use Rattle.std.proofs.Common.{sym, ◌∙◌, mod-lt, div-lt_iff_lt-mul, div-add-mod', arith}
+use Rattle.std.proofs.Common.{sym, ◌∙◌, mod-lt, div-lt_iff_lt-mul, div-add-mod', arith, refl, ap}
 use Rattle.definitions.specs.Arithmetic.{sum_to}
 use Rattle.laws.specs.Sizes.{Counts}
 use Rattle.plan.specs.Orders.{OrderOn, constant}
@@ -15,7 +14,7 @@ use Rattle.orders.specs.Limits.{part_limit}
 use Rattle.orders.specs.declared.shape.Columns.{Columns}
 use Rattle.orders.specs.declared.shape.Shape.{Shape}
 use Rattle.std.proofs.Math.Decide.{dec_lt}
-use Rattle.std.proofs.Math.ListN.{get_or-eq_default}
+use Rattle.std.proofs.lemmas.List.{get_or_past}
 use Rattle.orders.specs.declared.shape.Spot.{Spot}
 use Rattle.orders.specs.Named.{made, at_turn, subset_lowest}
 use Rattle.plan.specs.Phased.{PartOf, no_part, part_at, part_size, row_size, phase_size, phase_in, Has, has_here, in_even, block_each, even_length}
@@ -100,7 +99,7 @@ size_is p s h = rw (row_is p s h, h.rows)
 pub part_there : (p : Phase) (q j : ℕ) → j < (part_at p q).columns → q < length p.parts
 part_there p q j h = elim (dec_lt q (length p.parts)) [
   | yes l ↦ l
-  | no l ↦ absurd (omega (arith, ap (λ (t : PartOf (OrderOn Name)). t.columns) (get_or-eq_default p.parts no_part {n = q} (omega arith))))
+  | no l ↦ absurd (omega (arith, ap (λ (t : PartOf (OrderOn Name)). t.columns) (get_or_past p.parts q no_part (omega arith))))
 ]
 
 -- ---- a place in a phase
@@ -216,9 +215,6 @@ module _ (n m k K : ℕ) (s : Spot) (e : k ≡ K) (h : InPhase (phase_at n m k) 
   module _ (one : length (phase_at n m K).parts ≡ 1) where
     first : s.part ≡ 0
     first = omega (arith, place_known.part)
-
-    pub turn_known : s.turn < (part_at (phase_at n m K) 0).turn
-    turn_known = (in_part (phase_at n m K) s 0 first place_known).1
 
     pub block_known : (w : OrderOn Name) → w ≡ made ((part_at (phase_at n m K) 0).block s.row s.column) s.turn → w ≡ order_in (phase_at n m k) s
     block_known w f = whole_known w (of_part (phase_at n m K) s 0 w first f)

@@ -2,7 +2,7 @@
 use Rattle.std.specs.Prelude.{◌≡◌, refl, List, [], ◌∷◌, ℕ, zero, suc, ◌+◌, ◌*◌, ◌%◌, ◌/◌, ◌≤◌, ◌<◌, length, get_or}
 use Rattle.std.proofs.Common.{sym, ap, ◌∙◌, arith, mod-lt, div-lt_iff_lt-mul, div-add-mod'}
 use Rattle.std.proofs.Math.Decide.{dec_lt}
-use Rattle.std.proofs.Math.ListN.{get_or-eq_default}
+use Rattle.std.proofs.lemmas.List.{get_or_past}
 use Rattle.definitions.specs.Arithmetic.{sum_to}
 use Rattle.plan.specs.Orders.{OrderOn}
 use Rattle.plan.specs.Names.{Name}
@@ -62,7 +62,7 @@ module _ (p : Phase) (s : Shape) (h : IsShape p s) (sizes : List ℕ) (e : sizes
   parts_sized (suc (suc zero)) = let t = h.parts 2 no_columns (omega arith) in rw (e, t.0, t.1) refl
   parts_sized (suc (suc (suc zero))) = let t = h.parts 3 no_columns (omega arith) in rw (e, t.0, t.1) refl
   parts_sized (suc (suc (suc (suc u)))) =
-      rw e (sym (ap (λ (t : PartOf (OrderOn Name)). t.columns * t.turn) (get_or-eq_default p.parts no_part {n = suc (suc (suc (suc u)))} (omega (arith, h.most)))))
+      rw e (sym (ap (λ (t : PartOf (OrderOn Name)). t.columns * t.turn) (get_or_past p.parts (suc (suc (suc (suc u)))) no_part (omega (arith, h.most)))))
 
   -- the row's end by them
   pub row_end : start sizes (length sizes) ≡ row_size p
@@ -102,8 +102,8 @@ module _ (n m : ℕ) (sizes : List ℕ) (long : length sizes ≡ phase_count) (h
   phases_sized u = elim (dec_lt u phase_count) [
     | yes l ↦ (h u l).is
     | no l ↦
-        get_or-eq_default sizes 0 {n = u} (omega arith)
-        ∙ sym (ap (λ (p : Phase). phase_size p) (get_or-eq_default (table n m) no_phase {n = u} (omega (arith, table_length n m))))
+        get_or_past sizes u 0 (omega arith)
+        ∙ sym (ap (λ (p : Phase). phase_size p) (get_or_past (table n m) u no_phase (omega (arith, table_length n m))))
   ]
 
   -- the plan's end by the sizes

@@ -1,8 +1,7 @@
 -- The tables of a plan: where each family of cells begins and where the last ends, how many columns each has (`IsLayout`), and how many
 -- orders each phase has (`IsSizes`).
 use Rattle.std.specs.Prelude.{◌≡◌, ◌⊎◌, List, ℕ, suc, ◌+◌, ◌*◌, ◌^◌, ◌≤◌, ◌<◌, length, get_or, set}
-use Rattle.std.proofs.Math.Path.{refl}
-use Rattle.std.proofs.Common.{sym, ap, ◌∙◌, inl, inr, arith, eq-or-lt_of_le, not-suc-le-zero, add-one, length-set, get_or-set_same, get_or-set_other}
+use Rattle.std.proofs.Common.{sym, ap, ◌∙◌, inl, inr, arith, eq-or-lt_of_le, not-suc-le-zero, add-one, length-set, get_or-set_same, get_or-set_other, refl}
 use Rattle.definitions.specs.Arithmetic.{sum_to}
 use Rattle.definitions.specs.Limits.{cell_count}
 use Rattle.laws.specs.Sizes.{Counts}
