@@ -1,4 +1,6 @@
 // Blocks of orders over names: the order at a turn of its block.
+#![tactic(auto, using(crate::specs::Named::at_turn))]
+
 ghost use Rattle.std.specs.Prelude.{◌≡◌, ◌<◌, ◌≤◌, ◌^◌, [], ◌∷◌};
 ghost use Rattle.definitions.specs.Limits.{pool_limit};
 ghost use Rattle.plan.specs.Orders.{sum, product};
@@ -11,7 +13,6 @@ use crate::sets::{is_leaving, other_pools, subset_count};
 use plan::Family::*;
 
 // The product of cells a and b, in cell t, added to cell d.
-#[tactic(auto, using(crate::specs::Named::at_turn))]
 pub fn added(t: Name, d: Name, a: Name, b: Name, turn: usize) -> NamedOrder
     requires { turn < 2 }
     ensures { named_of result ≡ made (product (name_of t) (name_of a) (name_of b) ∷ sum (name_of d) (name_of d) (name_of t) ∷ []) turn }
@@ -23,7 +24,6 @@ pub fn added(t: Name, d: Name, a: Name, b: Name, turn: usize) -> NamedOrder
 }
 
 // Cell d takes what cell a holds, where low holds less than high: with a below d the lesser of the two, with d below a the greater.
-#[tactic(auto, using(crate::specs::Named::at_turn))]
 fn moved(d: Name, a: Name, low: Name, high: Name, turn: usize) -> NamedOrder
     requires { turn < 4 }
     ensures { named_of result ≡ made (moved (name_of d) (name_of a) (name_of low) (name_of high)) turn }
@@ -37,7 +37,6 @@ fn moved(d: Name, a: Name, low: Name, high: Name, turn: usize) -> NamedOrder
 }
 
 // The size of bid i.
-#[tactic(auto, using(crate::specs::Named::at_turn))]
 pub fn size_order(i: usize, turn: usize) -> NamedOrder
     requires { turn < 3 }
     ensures { named_of result ≡ made (size_block i) turn }
@@ -50,7 +49,6 @@ pub fn size_order(i: usize, turn: usize) -> NamedOrder
 }
 
 // The accepted amount of bid i.
-#[tactic(auto, using(crate::specs::Named::at_turn))]
 pub fn amount_order(i: usize, turn: usize) -> NamedOrder
     requires { turn < 4 }
     ensures { named_of result ≡ made (amount_block i) turn }
@@ -64,7 +62,6 @@ pub fn amount_order(i: usize, turn: usize) -> NamedOrder
 }
 
 // The offer of bid i.
-#[tactic(auto, using(crate::specs::Named::at_turn))]
 pub fn offer_order(i: usize, turn: usize) -> NamedOrder
     requires { turn < 4 }
     ensures { named_of result ≡ made (offer_block i) turn }
@@ -78,7 +75,6 @@ pub fn offer_order(i: usize, turn: usize) -> NamedOrder
 }
 
 // The price and presence of pool p.
-#[tactic(auto, using(crate::specs::Named::at_turn))]
 pub fn price_order(p: usize, turn: usize) -> NamedOrder
     requires { turn < 3 }
     ensures { named_of result ≡ made (price_block p) turn }

@@ -1,4 +1,7 @@
 // The table of the plan's phases: how often each loops, and the order at a place of it, over names.
+// A phase goes by its number: a position is found by counting phases off, and a name would be looked up in a list for each order.
+#![tactic(auto, using(crate::specs::Shaped::one_of, crate::specs::Shaped::of_part, crate::specs::Shaped::of_second, crate::specs::Shaped::one_of_second, crate::specs::Shaped::sum_at, crate::specs::Shaped::head_of, crate::specs::Shaped::cut_at, crate::specs::Shaped::gain_at))]
+
 ghost use Rattle.std.specs.Prelude.{◌≡◌, ◌<◌};
 ghost use Rattle.plan.specs.Table.{scratch_count, phase_at, phase_count, demand_phase, cut_phase, size_before_phase, rank_phase, placement_phase, slack_phase, line_phase, highest_offer_phase};
 ghost use Rattle.plan.specs.Names.{at};
@@ -58,8 +61,9 @@ pub fn shape_of(counts: Counts, scratch: usize, k: usize) -> Shape
     }
 }
 
+// Demands, placements and highest offers each clear a cell before they gather in it: one line, which a function for the three would not spare.
+
 // An order of the demand of a pool.
-#[tactic(auto, using(crate::specs::Shaped::one_of, crate::specs::Shaped::of_second))]
 fn demands(counts: Counts, s: Spot) -> NamedOrder
     requires { InPhase (demand_phase counts.n counts.m) s }
     ensures { named_of result ≡ order_in (demand_phase counts.n counts.m) s }
@@ -79,7 +83,6 @@ fn demands(counts: Counts, s: Spot) -> NamedOrder
 }
 
 // An order of the cuts: of the sums of demands over the sets, then of the cut of a set.
-#[tactic(auto, using(crate::specs::Shaped::sum_at, crate::specs::Shaped::head_of, crate::specs::Shaped::cut_at))]
 fn cuts(counts: Counts, s: Spot) -> NamedOrder
     requires { InPhase (cut_phase counts.n counts.m) s }
     ensures { named_of result ≡ order_in (cut_phase counts.n counts.m) s }
@@ -97,7 +100,6 @@ fn cuts(counts: Counts, s: Spot) -> NamedOrder
 }
 
 // An order of the sizes before a bid.
-#[tactic(auto, using(crate::specs::Shaped::one_of, crate::specs::Shaped::head_of, crate::specs::Shaped::gain_at))]
 fn sizes_before(counts: Counts, s: Spot) -> NamedOrder
     requires { InPhase (size_before_phase counts.n counts.m) s }
     ensures { named_of result ≡ order_in (size_before_phase counts.n counts.m) s }
@@ -120,7 +122,6 @@ fn sizes_before(counts: Counts, s: Spot) -> NamedOrder
 }
 
 // An order of the rank of the sizes in a row of a family, in the cell of that row of another.
-#[tactic(auto, using(crate::specs::Shaped::sum_at, crate::specs::Shaped::one_of, crate::specs::Shaped::of_part))]
 fn ranks(counts: Counts, sizes: Family, ranks: Family, s: Spot) -> NamedOrder
     requires { InPhase (rank_phase counts.n counts.m (at sizes) (λ x. at ranks x 0)) s }
     ensures { named_of result ≡ order_in (rank_phase counts.n counts.m (at sizes) (λ x. at ranks x 0)) s }
@@ -135,7 +136,6 @@ fn ranks(counts: Counts, sizes: Family, ranks: Family, s: Spot) -> NamedOrder
 }
 
 // An order of what is used in a pool.
-#[tactic(auto, using(crate::specs::Shaped::one_of, crate::specs::Shaped::of_second))]
 fn placements(counts: Counts, s: Spot) -> NamedOrder
     requires { InPhase (placement_phase counts.n counts.m) s }
     ensures { named_of result ≡ order_in (placement_phase counts.n counts.m) s }
@@ -155,7 +155,6 @@ fn placements(counts: Counts, s: Spot) -> NamedOrder
 }
 
 // An order of the slacks: of the sums of placements over the sets, then of the slack of a set.
-#[tactic(auto, using(crate::specs::Shaped::sum_at, crate::specs::Shaped::one_of_second))]
 fn slacks(counts: Counts, s: Spot) -> NamedOrder
     requires { InPhase (slack_phase counts.n counts.m) s }
     ensures { named_of result ≡ order_in (slack_phase counts.n counts.m) s }
@@ -169,7 +168,6 @@ fn slacks(counts: Counts, s: Spot) -> NamedOrder
 }
 
 // An order of a line.
-#[tactic(auto, using(crate::specs::Shaped::one_of, crate::specs::Shaped::of_part))]
 fn lines(counts: Counts, s: Spot) -> NamedOrder
     requires { InPhase (line_phase counts.n counts.m) s }
     ensures { named_of result ≡ order_in (line_phase counts.n counts.m) s }
@@ -185,7 +183,6 @@ fn lines(counts: Counts, s: Spot) -> NamedOrder
 }
 
 // An order of the highest offer in a pool.
-#[tactic(auto, using(crate::specs::Shaped::one_of, crate::specs::Shaped::of_second))]
 fn highest_offers(counts: Counts, s: Spot) -> NamedOrder
     requires { InPhase (highest_offer_phase counts.n counts.m) s }
     ensures { named_of result ≡ order_in (highest_offer_phase counts.n counts.m) s }

@@ -113,8 +113,11 @@ pub struct Tables {
     starts: [usize; STARTS],
     // How many columns each family has.
     columns: [usize; Family::COUNT],
+    // How many scratch cells have names: from the temporaries to the end.
+    scratch: usize,
     // How many orders each phase has.
     pub sizes: [usize; PHASES],
+    ghost scratch_cells: { scratch ≡ scratch_count counts.n counts.m },
     ghost layout: { IsLayout counts.n counts.m starts columns },
     ghost phases: { IsSizes counts.n counts.m sizes },
 }
@@ -135,6 +138,7 @@ impl Tables {
             counts,
             starts,
             columns,
+            scratch,
             sizes,
         }
     }
@@ -148,19 +152,12 @@ impl Tables {
         Ok(Tables::new(counts))
     }
 
-    // How many scratch cells have names: from the temporaries to the end.
-    fn scratch(&self) -> usize
-        ensures { result ≡ scratch_count self.now.counts.n self.now.counts.m }
-    {
-        self.starts[Family::COUNT] - self.starts[Temporaries as usize]
-    }
-
     // The shape of phase k.
     pub fn shape(&self, k: usize) -> Shape
         requires { k < phase_count }
         ensures { IsShape (phase_at self.now.counts.n self.now.counts.m k) result }
     {
-        shape_of(self.counts, self.scratch(), k)
+        shape_of(self.counts, self.scratch, k)
     }
 
     // The cell of a name.
