@@ -1,9 +1,5 @@
 -- Document 01's answer where a position is refused, and at the plan's end.
-use Prim.Native.Nat.{ℕ, ◌≤◌}
-use mathlib.Core.Path.{◌≡◌, refl, ap, ◌∙◌}
-use mathlib.Core.Bool.{false, true≢false}
-use lib.ListN.{length}
-use borrow.Author.Tests.{le-ltb}
+use Rattle.std.proofs.Common.{ℕ, ◌≤◌, ◌≡◌, refl, ap, ◌∙◌, false, true≢false, length, le-ltb}
 use Rattle.definitions.specs.Answers.{Refusal, none, refuse, is_none}
 use Rattle.definitions.specs.Calls.{counts_refusal}
 use Rattle.definitions.specs.Plan.{Plan, ended, refused, answered, position_refusal, entry, ask_refusal, asked}

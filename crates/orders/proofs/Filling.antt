@@ -1,8 +1,6 @@
 -- What the loop of `write_from` keeps while it fills a slice, order by order: it holds at first (`begins`), after each order (`goes_on`), and at the
 -- end is the contract (`ends`).
-use Rattle.std.proofs.Common.{ℕ, suc, ◌+◌, ◌-◌, ◌≤◌, ◌<◌, ◌≡◌, refl, sym, ap, ap₂, ◌∙◌, List, ◌∷◌, ◌++◌, arith, add-one, length, get_or, take, drop, length-append, length-drop, drop-cons}
-use lib.ListN.{drop_of_length-le}
-use lib.Seq.{drop-drop, get_or-drop}
+use Rattle.std.proofs.Common.{ℕ, suc, ◌+◌, ◌-◌, ◌≤◌, ◌<◌, ◌≡◌, refl, sym, ap, ap₂, ◌∙◌, List, ◌∷◌, ◌++◌, arith, add-one, length, get_or, take, drop, length-append, length-drop, drop-cons, drop_of_length-le, drop-drop, get_or-drop}
 use Rattle.definitions.specs.declared.Order.{Order}
 use Rattle.definitions.specs.declared.Order.TheVariants.{Constant}
 use Rattle.definitions.specs.Bytes.{order_bytes, orders_bytes}

@@ -1,8 +1,6 @@
 -- What is known of a call of the writer that is not refused (`write_within`), and what each call leaves.
 use Rattle.std.specs.Prelude.{ℕ, ◌≤◌, ◌≡◌, cond, ltb, List, length}
-use Rattle.std.proofs.Common.{ap, ◌∙◌}
-use Rattle.std.proofs.Math.Bool.{false}
-use borrow.Author.Tests.{ltb-false}
+use Rattle.std.proofs.Common.{ap, ◌∙◌, false, ltb-false}
 use Rattle.definitions.specs.declared.Reason.{Reason}
 use Rattle.definitions.specs.Answers.{Refusal, none, refuse, first, unless, is_none, stated}
 use Rattle.definitions.specs.Calls.{counts_refusal}

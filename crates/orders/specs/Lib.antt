@@ -2,8 +2,7 @@
 -- a position, the plan's run, and its bytes.
 pub mod Limits
 pub mod Digits
-pub mod Families
-pub mod Walk
+pub mod Named
 pub mod Shaped
 pub mod Tables
 pub mod Stretches

@@ -2,8 +2,7 @@
 -- On a sheet the plan's run is document 01's (`stepped_plan_is`).
 use Rattle.std.specs.Prelude.{◌≡◌, false, ℕ, zero, suc, ◌+◌, ◌-◌, ◌≤◌, ◌<◌, List, [], ◌∷◌, ◌++◌, map, length, get_or, take}
 use Rattle.std.proofs.Common.{refl, sym, ap, ◌∙◌, arith, add-one, append-nil, take-suc}
-use Rattle.std.proofs.Math.ListN.{get_or-eq_default}
-use mathlib.Core.List.{map-append}
+use Rattle.std.proofs.lemmas.List.{get_or_past, map-append}
 use Rattle.std.proofs.Math.Seq.{take-length}
 use Rattle.definitions.specs.declared.Order.{Order}
 use Rattle.definitions.specs.Answers.{Refusal, none, unless, is_none}
@@ -13,7 +12,7 @@ use Rattle.definitions.specs.Plan.{Plan}
 use Rattle.laws.specs.Refusal.{unless_refused}
 use Rattle.laws.specs.Sizes.{counted}
 use Rattle.machine.specs.Step.{stepped, stepped_all, stepped_append}
-use Rattle.machine.specs.Run.{stepped_all_is, stepped_all_length}
+use Rattle.machine.specs.Run.{stepped_all_is}
 use Rattle.plan.specs.Orders.{OrderOn, constant, order_of, renamed}
 use Rattle.plan.specs.Names.{Name, ZeroCell}
 use Rattle.plan.specs.Loops.{loop}
@@ -22,7 +21,7 @@ use Rattle.plan.specs.Table.{Phase, table}
 use Rattle.plan.specs.Plan.{cell_of, plan}
 use Rattle.plan.proofs.PlanOrders.{plan_orders}
 use Rattle.orders.specs.Limits.{part_limit}
-use Rattle.orders.specs.Walk.{named, numbered_of}
+use Rattle.orders.specs.Named.{made, numbered_of}
 
 -- ---- a plan's run on any slice
 
@@ -55,10 +54,6 @@ module _ (n m : ℕ) where
   unfolding ran_of plan
   ran_plan s = refl
 
-  pub ran_length : (l : List (OrderOn Name)) (s : List ℕ) → length (ran_of l s) ≡ length s
-  unfolding ran_of
-  ran_length l s = stepped_all_length (map order_of (map (renamed (cell_of n m)) l)) s
-
   ran_append : (x y : List (OrderOn Name)) (s : List ℕ) → ran_of (x ++ y) s ≡ ran_of y (ran_of x s)
   unfolding ran_of
   ran_append x y s =
@@ -80,8 +75,8 @@ module _ (n m : ℕ) where
   -- ---- a block, one more of its orders run
 
   pub step_one : (block : List (OrderOn Name)) (start s t : List ℕ) (count : ℕ) → s ≡ ran_of (take count block) start → count < length block
-      → t ≡ stepped s (numbered_of n m (named block count)) → t ≡ ran_of (take (count + 1) block) start
-  unfolding ran_of stepped_all numbered_of named
+      → t ≡ stepped s (numbered_of n m (made block count)) → t ≡ ran_of (take (count + 1) block) start
+  unfolding ran_of stepped_all numbered_of made
   step_one block start s t count h l g =
       let o : OrderOn Name = get_or block count (constant ZeroCell 0) in
       g
@@ -107,5 +102,5 @@ pub row_of_four : (p : Phase) (i : ℕ) → length p.parts ≤ part_limit → lo
 row_of_four p i h =
     let e : part_limit ≡ length p.parts + (part_limit - length p.parts) = omega arith in
     ap (λ (c : ℕ). loop c (λ q. stretch i (part_at p q))) e
-    ∙ longer (λ q. stretch i (part_at p q)) (length p.parts) (part_limit - length p.parts) (λ q l. ap (stretch i) (get_or-eq_default p.parts no_part {n = q} l))
+    ∙ longer (λ q. stretch i (part_at p q)) (length p.parts) (part_limit - length p.parts) (λ q l. ap (stretch i) (get_or_past p.parts q no_part l))
     ∙ sym (row_loop_lem p i)

@@ -2,7 +2,7 @@
 use Rattle.std.specs.Prelude.{◌≡◌, refl, List, [], ◌∷◌, ℕ, zero, suc, ◌+◌, ◌*◌, ◌%◌, ◌/◌, ◌≤◌, ◌<◌, length, get_or}
 use Rattle.std.proofs.Common.{sym, ap, ◌∙◌, arith, mod-lt, div-lt_iff_lt-mul, div-add-mod'}
 use Rattle.std.proofs.Math.Decide.{dec_lt}
-use Rattle.std.proofs.Math.ListN.{get_or-eq_default}
+use Rattle.std.proofs.lemmas.List.{get_or_past}
 use Rattle.definitions.specs.Arithmetic.{sum_to}
 use Rattle.plan.specs.Orders.{OrderOn}
 use Rattle.plan.specs.Names.{Name}
@@ -14,7 +14,8 @@ use Rattle.plan.specs.Phased.{PartOf, no_part, no_phase, part_at, part_size, row
 use Rattle.plan.specs.Table.{Phase, table, phase_at, phase_count, table_length}
 use Rattle.orders.specs.Limits.{phase_limit}
 use Rattle.orders.specs.declared.shape.Shape.{Shape}
-use Rattle.orders.specs.Walk.{numbered_of}
+use Rattle.orders.specs.declared.shape.Spot.{Spot}
+use Rattle.orders.specs.Named.{numbered_of}
 use Rattle.orders.specs.Shaped.{IsShape, part_number, no_columns, part_there, four, InPhase, order_in, has_order, positive_right}
 use Rattle.orders.specs.Tables.{IsSizes}
 use Rattle.orders.specs.Stretches.{start, start_is, from_start}
@@ -37,17 +38,21 @@ module _ (p : Phase) (x q y turn : ℕ) (h : Lies p x q y) (e : turn ≡ (part_a
   some_turn = rw e (positive_right (part_at p q).columns (part_at p q).turn y h.inside)
 
   module _ (i : ℕ) (a : i < p.rows) where
-    pub found : InPhase p i q (y / turn) (y % turn)
+    -- that place
+    abbrev spot : Spot
+    spot = record { row = i; part = q; column = y / turn; turn = y % turn }
+
+    pub found : InPhase p spot
     found =
         let column : y / turn < (part_at p q).columns = (div-lt_iff_lt-mul some_turn).1 (rw (← e) at h.inside) in
         record { row = a; part = part_there p q (y / turn) column; column = column; place = rw (← e) (mod-lt y some_turn) }
 
-    pub found_at : (n m : ℕ) (r : Order) → r ≡ numbered_of n m (order_in p i q (y / turn) (y % turn)) → IsAt n m (row_of p i) x r
+    pub found_at : (n m : ℕ) (r : Order) → r ≡ numbered_of n m (order_in p spot) → IsAt n m (row_of p i) x r
     found_at n m r f =
-        let has = in_row p i q (y / turn) (y % turn) _ found.part found.column (has_order p i q (y / turn) (y % turn) found) in
+        let has = in_row p i q (y / turn) (y % turn) _ found.part found.column (has_order p spot found) in
         let w : x ≡ part_start p q + ((y / turn) * (part_at p q).turn + y % turn)
         = h.left ∙ ap (λ (z : ℕ). part_start p q + z) (sym (div-add-mod' y turn) ∙ ap (λ (z : ℕ). (y / turn) * z + y % turn) e) in
-        record { order = order_in p i q (y / turn) (y % turn); there = rw w has; is = f }
+        record { order = order_in p spot; there = rw w has; is = f }
 
 -- the sizes of the four parts
 module _ (p : Phase) (s : Shape) (h : IsShape p s) (sizes : List ℕ) (e : sizes ≡ part_number s 0 ∷ part_number s 1 ∷ part_number s 2 ∷ part_number s 3 ∷ []) where
@@ -57,7 +62,7 @@ module _ (p : Phase) (s : Shape) (h : IsShape p s) (sizes : List ℕ) (e : sizes
   parts_sized (suc (suc zero)) = let t = h.parts 2 no_columns (omega arith) in rw (e, t.0, t.1) refl
   parts_sized (suc (suc (suc zero))) = let t = h.parts 3 no_columns (omega arith) in rw (e, t.0, t.1) refl
   parts_sized (suc (suc (suc (suc u)))) =
-      rw e (sym (ap (λ (t : PartOf (OrderOn Name)). t.columns * t.turn) (get_or-eq_default p.parts no_part {n = suc (suc (suc (suc u)))} (omega (arith, h.most)))))
+      rw e (sym (ap (λ (t : PartOf (OrderOn Name)). t.columns * t.turn) (get_or_past p.parts (suc (suc (suc (suc u)))) no_part (omega (arith, h.most)))))
 
   -- the row's end by them
   pub row_end : start sizes (length sizes) ≡ row_size p
@@ -97,8 +102,8 @@ module _ (n m : ℕ) (sizes : List ℕ) (long : length sizes ≡ phase_count) (h
   phases_sized u = elim (dec_lt u phase_count) [
     | yes l ↦ (h u l).is
     | no l ↦
-        get_or-eq_default sizes 0 {n = u} (omega arith)
-        ∙ sym (ap (λ (p : Phase). phase_size p) (get_or-eq_default (table n m) no_phase {n = u} (omega (arith, table_length n m))))
+        get_or_past sizes u 0 (omega arith)
+        ∙ sym (ap (λ (p : Phase). phase_size p) (get_or_past (table n m) u no_phase (omega (arith, table_length n m))))
   ]
 
   -- the plan's end by the sizes

@@ -1,8 +1,7 @@
 -- The tables of a plan: where each family of cells begins and where the last ends, how many columns each has (`IsLayout`), and how many
 -- orders each phase has (`IsSizes`).
 use Rattle.std.specs.Prelude.{◌≡◌, ◌⊎◌, List, ℕ, suc, ◌+◌, ◌*◌, ◌^◌, ◌≤◌, ◌<◌, length, get_or, set}
-use Rattle.std.proofs.Math.Path.{refl}
-use Rattle.std.proofs.Common.{sym, ap, ◌∙◌, inl, inr, arith, eq-or-lt_of_le, not-suc-le-zero, add-one, length-set, get_or-set_same, get_or-set_other}
+use Rattle.std.proofs.Common.{sym, ap, ◌∙◌, inl, inr, arith, eq-or-lt_of_le, not-suc-le-zero, add-one, length-set, get_or-set_same, get_or-set_other, refl}
 use Rattle.definitions.specs.Arithmetic.{sum_to}
 use Rattle.definitions.specs.Limits.{cell_count}
 use Rattle.laws.specs.Sizes.{Counts}
@@ -15,13 +14,6 @@ use Rattle.plan.specs.Table.{phase_at, phase_count}
 use Rattle.plan.specs.Plan.{from, scratch_count}
 use Rattle.plan.proofs.PlanFacts.{from_scratch, from_end, names_fit}
 use Rattle.orders.specs.Limits.{phase_limit}
-
--- the place of the family of a number
-abbrev pub place_at : (n m lines sets f : ℕ) → Place
-place_at n m lines sets f = family_place n m lines sets (family_at f)
-
-pub at_key : (n m lines sets f k : ℕ) → f ≡ k → place_at n m lines sets k ≡ place_at n m lines sets f
-at_key n m lines sets f k e = ap (place_at n m lines sets) (sym e)
 
 pub from_next : (n m u : ℕ) → from n m (suc u) ≡ from n m u + rows_of n m (family_at u) * columns_of n m (family_at u)
 unfolding from sum_to
@@ -79,10 +71,10 @@ module _ (n m : ℕ) where
   first_start = refl
 
   -- where the next family begins: on the sheet
-  pub next_start : (k start : ℕ) (p : Place) → p ≡ place_at n m (m * m) (2 ^ m) k → start ≡ from n m k → start + p.1 * p.2 ≡ from n m (k + 1)
+  pub next_start : (k start : ℕ) (p : Place) → p ≡ family_place n m (m * m) (2 ^ m) (family_at k) → start ≡ from n m k → start + p.1 * p.2 ≡ from n m (k + 1)
   next_start k start p e g = rw (e, g) (sym (ap (from n m) (add-one k) ∙ from_next n m k))
 
-  pub next_on_sheet : (k start : ℕ) (p : Place) → Counts n m → k < family_count → p ≡ place_at n m (m * m) (2 ^ m) k → start ≡ from n m k → start + p.1 * p.2 ≤ cell_count
+  pub next_on_sheet : (k start : ℕ) (p : Place) → Counts n m → k < family_count → p ≡ family_place n m (m * m) (2 ^ m) (family_at k) → start ≡ from n m k → start + p.1 * p.2 ≤ cell_count
   next_on_sheet k start p h l e g = omega (arith, next_start k start p e g, from_small n m (k + 1) h (omega arith))
 
   -- how many scratch cells have names: from the temporaries to the end

@@ -84,7 +84,7 @@ impl Position {
     }
 }
 
-#[derive(Drop)]
+#[derive(Clone, Copy)]
 pub struct Plan {}
 
 impl Plan {

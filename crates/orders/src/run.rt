@@ -7,22 +7,28 @@ ghost use Rattle.plan.specs.Plan.{plan};
 ghost use Rattle.orders.specs.Shaped.{IsShape};
 ghost use Rattle.orders.specs.Runs.{ran_of};
 
-use crate::shape::Shape;
+use crate::shape::{Shape, Spot};
 use crate::tables::{PHASES, Tables};
 use machine::step;
 
 impl Tables {
-    // Row i of phase k.
-    fn run_row(&self, k: usize, shape: &Shape, i: usize, sheet: &mut [u32])
+    // A row of phase k.
+    fn run_row(&self, k: usize, shape: &Shape, row: usize, sheet: &mut [u32])
         requires k_lt_phase_count { k < phase_count }
         requires shape { IsShape (phase_at self.now.counts.n self.now.counts.m k) shape.now }
-        requires i_bound { i < (phase_at self.now.counts.n self.now.counts.m k).rows }
-        ensures { sheet.new ≡ ran_of self.now.counts.n self.now.counts.m (row_of (phase_at self.now.counts.n self.now.counts.m k) i) sheet.old }
+        requires row_bound { row < (phase_at self.now.counts.n self.now.counts.m k).rows }
+        ensures { sheet.new ≡ ran_of self.now.counts.n self.now.counts.m (row_of (phase_at self.now.counts.n self.now.counts.m k) row) sheet.old }
     {
-        for (q, part) in shape.parts.iter().enumerate() {
-            for j in 0..part.count {
-                for r in 0..part.turn {
-                    step(sheet, self.order(k, i, q, j, r));
+        for (part, columns) in shape.parts.iter().enumerate() {
+            for column in 0..columns.count {
+                for turn in 0..columns.turn {
+                    let s = Spot {
+                        row,
+                        part,
+                        column,
+                        turn,
+                    };
+                    step(sheet, self.order(k, s));
                 }
             }
         }
@@ -34,8 +40,8 @@ impl Tables {
     {
         for k in 0..PHASES {
             let shape = self.shape(k);
-            for i in 0..shape.rows {
-                self.run_row(k, &shape, i, sheet);
+            for row in 0..shape.rows {
+                self.run_row(k, &shape, row, sheet);
             }
         }
     }

@@ -77,3 +77,12 @@ impl Shape {
         self.rows * self.row_size()
     }
 }
+
+// A place in a phase: an order of a block, which stands in a column of a part of a row.
+#[derive(Clone, Copy)]
+pub struct Spot {
+    pub row: usize,
+    pub part: usize,
+    pub column: usize,
+    pub turn: usize,
+}

@@ -1,19 +1,24 @@
 // The table of the plan's phases: how often each loops, and the order at a place of it, over names.
-ghost use Rattle.std.specs.Prelude.{◌≡◌, ◌*◌, ◌≤◌, ◌<◌};
-ghost use Rattle.definitions.specs.Limits.{pool_limit};
-ghost use Rattle.plan.specs.Names.{family_count};
-ghost use Rattle.orders.specs.Walk.{name_at};
+// A phase goes by its number: a position is found by counting phases off, and a name would be looked up in a list for each order.
+#![tactic(auto, using(crate::specs::Shaped::one_of, crate::specs::Shaped::of_part, crate::specs::Shaped::of_second, crate::specs::Shaped::one_of_second, crate::specs::Shaped::sum_at, crate::specs::Shaped::head_of, crate::specs::Shaped::cut_at, crate::specs::Shaped::gain_at))]
+
+ghost use Rattle.std.specs.Prelude.{◌≡◌, ◌<◌};
 ghost use Rattle.plan.specs.Table.{scratch_count, phase_at, phase_count, demand_phase, cut_phase, size_before_phase, rank_phase, placement_phase, slack_phase, line_phase, highest_offer_phase};
-ghost use Rattle.orders.specs.Shaped.{IsShape, InPhase, flat_in};
+ghost use Rattle.plan.specs.Names.{at};
+ghost use Rattle.orders.specs.Named.{named_of};
+ghost use Rattle.orders.specs.Shaped.{IsShape, InPhase, order_in};
 
 use crate::blocks::{
-    amount_order, cost_turn, cut_turn, demand_turn, gain_turn, highest_offer_turn, offer_order,
-    placement_turn, price_order, rest_turn, size_order, subset_order, take_turn, test_order,
+    added, amount_order, cost_turn, cut_turn, highest_offer_turn, offer_order, price_order,
+    rest_turn, size_order, subset_order, take_turn, test_order,
 };
-use crate::names::*;
+use crate::names::{
+    NamedOrder, PRICE, QUANTITY, SHIFT, cell, difference, equal, first, less, own, product, sum,
+};
 use crate::sets::{lowest_pool, subset_count};
-use crate::shape::{NONE, ONE, Shape, many};
+use crate::shape::{NONE, ONE, Shape, Spot, many};
 use definitions::{Counts, Limits};
+use plan::Family::{self, *};
 
 // The shape of phase k, for so many scratch cells.
 #[tactic(auto, using(crate::specs::Shaped::shape_known), unfolding(plan::specs::Table::phase_at, plan::specs::Table::table, plan::specs::Table::work))]
@@ -52,168 +57,200 @@ pub fn shape_of(counts: Counts, scratch: usize, k: usize) -> Shape
         22 => Shape::new(n, [many(1, 4), NONE, NONE, NONE]), // offers
         23 => Shape::new(m, [ONE, many(n, 5), NONE, NONE]), // highest offers
         24 => Shape::new(m, [many(1, 3), NONE, NONE, NONE]), // prices
-        25.. => Shape::new(1, [many(scratch, 1), NONE, NONE, NONE]), // zeros
+        _ => Shape::new(1, [many(scratch, 1), NONE, NONE, NONE]), // zeros
     }
 }
 
-// An order of the demand of pool i.
-fn demands(n: usize, m: usize, i: usize, q: usize, j: usize, r: usize) -> NamedOrder
-    requires { InPhase (demand_phase n m) i q j r }
-    ensures { result ≡ flat_in (demand_phase n m) i q j r }
+// Demands, placements and highest offers each clear a cell before they gather in it: one line, which a function for the three would not spare.
+
+// An order of the demand of a pool.
+fn demands(counts: Counts, s: Spot) -> NamedOrder
+    requires { InPhase (demand_phase counts.n counts.m) s }
+    ensures { named_of result ≡ order_in (demand_phase counts.n counts.m) s }
 {
-    if q == 0 {
-        return NamedOrder(CONSTANT, DEMANDS, i, 0, 0, 0, 0, 0, 0, 0);
+    let demand = first(Demands, s.row);
+    if s.part == 0 {
+        return NamedOrder::Constant(demand, 0);
     }
-    demand_turn(i, j, r)
+    let bid = s.column;
+    added(
+        own(0),
+        demand,
+        first(Sides, bid),
+        cell(PoolSizes, bid, s.row),
+        s.turn,
+    )
 }
 
-// An order of the cuts: of the sums of demands over the sets, then of the cut of set j.
-fn cuts(n: usize, m: usize, i: usize, q: usize, j: usize, r: usize) -> NamedOrder
-    requires { InPhase (cut_phase n m) i q j r }
-    ensures { result ≡ flat_in (cut_phase n m) i q j r }
+// An order of the cuts: of the sums of demands over the sets, then of the cut of a set.
+fn cuts(counts: Counts, s: Spot) -> NamedOrder
+    requires { InPhase (cut_phase counts.n counts.m) s }
+    ensures { named_of result ≡ order_in (cut_phase counts.n counts.m) s }
 {
-    if q == 0 {
-        return subset_order(m, j, DEMANDS, lowest_pool(m, j), 0);
+    let m = counts.m;
+    let set = s.column;
+    if s.part == 0 {
+        return subset_order(m, set, first(Demands, lowest_pool(m, set)));
     }
-    if r == 0 {
-        return NamedOrder(SUM, CUTS, j, 0, SUBSETS, j, 0, ZERO_CELLS, 0, 0);
+    if s.turn == 0 {
+        return sum(first(Cuts, set), first(Subsets, set), first(ZeroCells, 0));
     }
-    cut_turn(j, (r - 1) / m, (r - 1) % m)
+    let line = s.turn - 1;
+    cut_turn(set, line / m, line % m)
 }
 
-// An order of the sizes before bid i.
-fn sizes_before(n: usize, m: usize, i: usize, q: usize, j: usize, r: usize) -> NamedOrder
-    requires { InPhase (size_before_phase n m) i q j r }
-    ensures { result ≡ flat_in (size_before_phase n m) i q j r }
+// An order of the sizes before a bid.
+fn sizes_before(counts: Counts, s: Spot) -> NamedOrder
+    requires { InPhase (size_before_phase counts.n counts.m) s }
+    ensures { named_of result ≡ order_in (size_before_phase counts.n counts.m) s }
 {
-    if q == 0 {
-        return NamedOrder(CONSTANT, SIZES_BEFORE, i, j, 0, 0, 0, 0, 0, 0);
+    if s.part == 0 {
+        return NamedOrder::Constant(cell(SizesBefore, s.row, s.column), 0);
     }
-    if r == 0 {
-        return test_order(i, j);
+    if s.turn == 0 {
+        return test_order(s.row, s.column);
     }
-    gain_turn(i, j, (r - 1) / 2, (r - 1) % 2)
+    let pool = (s.turn - 1) / 2;
+    let size = cell(SizesBefore, s.row, pool);
+    added(
+        own(1),
+        size,
+        own(0),
+        cell(PoolSizes, s.column, pool),
+        (s.turn - 1) % 2,
+    )
 }
 
-// An order of the rank of the sizes in row i of family t, in cell i of family u.
-fn ranks(
-    n: usize,
-    m: usize,
-    t: usize,
-    u: usize,
-    i: usize,
-    q: usize,
-    j: usize,
-    r: usize,
-) -> NamedOrder
-    requires m_le_pool_limit { m ≤ pool_limit }
-    requires t_lt_family_count { t < family_count }
-    requires u_lt_family_count { u < family_count }
-    requires in_phase { InPhase (rank_phase n m (name_at t) (λ x. name_at u x 0)) i q j r }
-    ensures { result ≡ flat_in (rank_phase n m (name_at t) (λ x. name_at u x 0)) i q j r }
+// An order of the rank of the sizes in a row of a family, in the cell of that row of another.
+fn ranks(counts: Counts, sizes: Family, ranks: Family, s: Spot) -> NamedOrder
+    requires { InPhase (rank_phase counts.n counts.m (at sizes) (λ x. at ranks x 0)) s }
+    ensures { named_of result ≡ order_in (rank_phase counts.n counts.m (at sizes) (λ x. at ranks x 0)) s }
 {
-    if q == 0 {
-        return subset_order(m, j, t, i, lowest_pool(m, j));
-    }
-    if q == 1 {
-        return NamedOrder(CONSTANT, u, i, 0, Limits::POSITIVE as usize, 0, 0, 0, 0, 0);
-    }
-    cost_turn(m, u, i, j, r)
-}
-
-// An order of what is used in pool i.
-fn placements(n: usize, m: usize, i: usize, q: usize, j: usize, r: usize) -> NamedOrder
-    requires { InPhase (placement_phase n m) i q j r }
-    ensures { result ≡ flat_in (placement_phase n m) i q j r }
-{
-    if q == 0 {
-        return NamedOrder(CONSTANT, PLACEMENTS, i, 0, 0, 0, 0, 0, 0, 0);
-    }
-    placement_turn(i, j, r)
-}
-
-// An order of the slacks: of the sums of placements over the sets, then of the slack of set j.
-fn slacks(n: usize, m: usize, i: usize, q: usize, j: usize, r: usize) -> NamedOrder
-    requires { InPhase (slack_phase n m) i q j r }
-    ensures { result ≡ flat_in (slack_phase n m) i q j r }
-{
-    if q == 0 {
-        return subset_order(m, j, PLACEMENTS, lowest_pool(m, j), 0);
-    }
-    NamedOrder(DIFFERENCE, SLACKS, j, 0, CUTS, j, 0, SUBSETS, j, 0)
-}
-
-// An order of line i.
-fn lines(n: usize, m: usize, i: usize, q: usize, j: usize, r: usize) -> NamedOrder
-    requires { InPhase (line_phase n m) i q j r }
-    ensures { result ≡ flat_in (line_phase n m) i q j r }
-{
-    let a = i / m;
-    let b = i % m;
-    match q {
-        0 => NamedOrder(SUM, OWN, 2, 0, CAPACITIES, a, b, ZERO_CELLS, 0, 0),
-        1 => rest_turn(a, b, j, r),
-        2 => NamedOrder(DIFFERENCE, FLOWS, i, 0, CAPACITIES, a, b, OWN, 2, 0),
-        3.. => take_turn(i, a, b, j),
+    let m = counts.m;
+    let set = s.column;
+    match s.part {
+        0 => subset_order(m, set, cell(sizes, s.row, lowest_pool(m, set))),
+        1 => NamedOrder::Constant(first(ranks, s.row), Limits::POSITIVE as usize),
+        _ => cost_turn(m, first(ranks, s.row), set, s.turn),
     }
 }
 
-// An order of the highest offer in pool i.
-fn highest_offers(n: usize, m: usize, i: usize, q: usize, j: usize, r: usize) -> NamedOrder
-    requires { InPhase (highest_offer_phase n m) i q j r }
-    ensures { result ≡ flat_in (highest_offer_phase n m) i q j r }
+// An order of what is used in a pool.
+fn placements(counts: Counts, s: Spot) -> NamedOrder
+    requires { InPhase (placement_phase counts.n counts.m) s }
+    ensures { named_of result ≡ order_in (placement_phase counts.n counts.m) s }
 {
-    if q == 0 {
-        return NamedOrder(CONSTANT, HIGHEST_OFFERS, i, 0, 0, 0, 0, 0, 0, 0);
+    let placement = first(Placements, s.row);
+    if s.part == 0 {
+        return NamedOrder::Constant(placement, 0);
     }
-    highest_offer_turn(i, j, r)
+    let bid = s.column;
+    added(
+        own(0),
+        placement,
+        cell(Memberships, bid, s.row),
+        first(Uses, bid),
+        s.turn,
+    )
+}
+
+// An order of the slacks: of the sums of placements over the sets, then of the slack of a set.
+fn slacks(counts: Counts, s: Spot) -> NamedOrder
+    requires { InPhase (slack_phase counts.n counts.m) s }
+    ensures { named_of result ≡ order_in (slack_phase counts.n counts.m) s }
+{
+    let m = counts.m;
+    let set = s.column;
+    if s.part == 0 {
+        return subset_order(m, set, first(Placements, lowest_pool(m, set)));
+    }
+    difference(first(Slacks, set), first(Cuts, set), first(Subsets, set))
+}
+
+// An order of a line.
+fn lines(counts: Counts, s: Spot) -> NamedOrder
+    requires { InPhase (line_phase counts.n counts.m) s }
+    ensures { named_of result ≡ order_in (line_phase counts.n counts.m) s }
+{
+    let a = s.row / counts.m;
+    let b = s.row % counts.m;
+    match s.part {
+        0 => sum(own(2), cell(Capacities, a, b), first(ZeroCells, 0)),
+        1 => rest_turn(a, b, s.column, s.turn),
+        2 => difference(first(Flows, s.row), cell(Capacities, a, b), own(2)),
+        _ => take_turn(s.row, a, b, s.column),
+    }
+}
+
+// An order of the highest offer in a pool.
+fn highest_offers(counts: Counts, s: Spot) -> NamedOrder
+    requires { InPhase (highest_offer_phase counts.n counts.m) s }
+    ensures { named_of result ≡ order_in (highest_offer_phase counts.n counts.m) s }
+{
+    if s.part == 0 {
+        return NamedOrder::Constant(first(HighestOffers, s.row), 0);
+    }
+    highest_offer_turn(s.row, s.column, s.turn)
 }
 
 // The order at a place of phase k.
-pub fn order_of(counts: Counts, k: usize, i: usize, q: usize, j: usize, r: usize) -> NamedOrder
+#[tactic(auto, using(crate::specs::Shaped::only_known, crate::specs::Shaped::block_known), unfolding(plan::specs::Table::phase_at, plan::specs::Table::table, plan::specs::Table::work, crate::specs::Shaped::order_in, crate::specs::Named::made))]
+pub fn order_of(counts: Counts, k: usize, s: Spot) -> NamedOrder
     requires k_lt_phase_count { k < phase_count }
-    requires in_phase { InPhase (phase_at counts.n counts.m k) i q j r }
-    ensures { result ≡ flat_in (phase_at counts.n counts.m k) i q j r }
+    requires in_phase { InPhase (phase_at counts.n counts.m k) s }
+    ensures { named_of result ≡ order_in (phase_at counts.n counts.m k) s }
 {
-    let n = counts.n;
-    let m = counts.m;
+    let i = s.row;
     match k {
-        0 => NamedOrder(CONSTANT, UNITS, i, 0, 1, 0, 0, 0, 0, 0),
-        1 => NamedOrder(CONSTANT, SHIFTS, i, 0, SHIFT, 0, 0, 0, 0, 0),
-        2 => NamedOrder(CONSTANT, POOL_NUMBERS, i, 0, i + 1, 0, 0, 0, 0, 0),
-        3 => NamedOrder(LESS, SIDES, i, 0, ZERO_CELLS, 0, 0, BIDS, i, QUANTITY),
-        4 => size_order(i, r),
-        5 => NamedOrder(SUM, POSITIVE_PRICES, i, 0, BIDS, i, PRICE, SHIFTS, 0, 0),
-        6 => NamedOrder(
-            SUM,
-            DOUBLES,
-            i,
-            0,
-            POSITIVE_PRICES,
-            i,
-            0,
-            POSITIVE_PRICES,
-            i,
-            0,
+        0 => NamedOrder::Constant(first(Units, i), 1),
+        1 => NamedOrder::Constant(first(Shifts, i), SHIFT),
+        2 => NamedOrder::Constant(first(PoolNumbers, i), i + 1),
+        3 => less(
+            first(Sides, i),
+            first(ZeroCells, 0),
+            cell(Bids, i, QUANTITY),
         ),
-        7 => NamedOrder(SUM, KEYS, i, 0, DOUBLES, i, 0, SIDES, i, 0),
-        8 => NamedOrder(SUM, NEXTS, i, 0, DOUBLES, i, 0, UNITS, 0, 0),
-        9 => NamedOrder(EQUAL, MEMBERSHIPS, i, j, BIDS, i, 0, POOL_NUMBERS, j, 0),
-        10 => NamedOrder(PRODUCT, POOL_SIZES, i, j, MEMBERSHIPS, i, j, SIZES, i, 0),
-        11 => demands(n, m, i, q, j, r),
-        12 => cuts(n, m, i, q, j, r),
-        13 => sizes_before(n, m, i, q, j, r),
-        14 => ranks(n, m, SIZES_BEFORE, RANKS_BEFORE, i, q, j, r),
-        15 => NamedOrder(SUM, SIZES_WITH, i, j, SIZES_BEFORE, i, j, POOL_SIZES, i, j),
-        16 => ranks(n, m, SIZES_WITH, RANKS_WITH, i, q, j, r),
-        17 => NamedOrder(DIFFERENCE, USES, i, 0, RANKS_WITH, i, 0, RANKS_BEFORE, i, 0),
-        18 => amount_order(i, r),
-        19 => placements(n, m, i, q, j, r),
-        20 => slacks(n, m, i, q, j, r),
-        21 => lines(n, m, i, q, j, r),
-        22 => offer_order(i, r),
-        23 => highest_offers(n, m, i, q, j, r),
-        24 => price_order(i, r),
-        25.. => NamedOrder(CONSTANT, OWN, j, 0, 0, 0, 0, 0, 0, 0),
+        4 => size_order(i, s.turn),
+        5 => sum(
+            first(PositivePrices, i),
+            cell(Bids, i, PRICE),
+            first(Shifts, 0),
+        ),
+        6 => sum(
+            first(Doubles, i),
+            first(PositivePrices, i),
+            first(PositivePrices, i),
+        ),
+        7 => sum(first(Keys, i), first(Doubles, i), first(Sides, i)),
+        8 => sum(first(Nexts, i), first(Doubles, i), first(Units, 0)),
+        9 => equal(
+            cell(Memberships, i, s.column),
+            first(Bids, i),
+            first(PoolNumbers, s.column),
+        ),
+        10 => product(
+            cell(PoolSizes, i, s.column),
+            cell(Memberships, i, s.column),
+            first(Sizes, i),
+        ),
+        11 => demands(counts, s),
+        12 => cuts(counts, s),
+        13 => sizes_before(counts, s),
+        14 => ranks(counts, SizesBefore, RanksBefore, s),
+        15 => sum(
+            cell(SizesWith, i, s.column),
+            cell(SizesBefore, i, s.column),
+            cell(PoolSizes, i, s.column),
+        ),
+        16 => ranks(counts, SizesWith, RanksWith, s),
+        17 => difference(first(Uses, i), first(RanksWith, i), first(RanksBefore, i)),
+        18 => amount_order(i, s.turn),
+        19 => placements(counts, s),
+        20 => slacks(counts, s),
+        21 => lines(counts, s),
+        22 => offer_order(i, s.turn),
+        23 => highest_offers(counts, s),
+        24 => price_order(i, s.turn),
+        _ => NamedOrder::Constant(own(s.column), 0),
     }
 }

@@ -2,17 +2,18 @@
 ghost use Rattle.std.specs.Prelude.{◌≡◌, ◌<◌, IfOk};
 ghost use Rattle.definitions.specs.Answers.{refusal_of};
 ghost use Rattle.definitions.specs.Calls.{counts_refusal};
-ghost use Rattle.plan.specs.Names.{family_count};
+ghost use Rattle.plan.specs.Names.{number, family_place};
 ghost use Rattle.plan.specs.Plan.{scratch_count};
-ghost use Rattle.orders.specs.Tables.{place_at, IsLayout, IsSizes};
+ghost use Rattle.orders.specs.Tables.{IsLayout, IsSizes};
 
-use crate::names::*;
+use crate::names::{Name, NamedOrder, Operation};
 use crate::sets::subset_count;
-use crate::shape::Shape;
+use crate::shape::{Shape, Spot};
 use crate::table::{order_of, shape_of};
 use definitions::{Counts, Limits, Order, Reason};
 use judging::judge_counts;
-use plan::{Family, Place};
+use plan::Family::{self, *};
+use plan::Place;
 
 // How many phases the plan has.
 pub const PHASES: usize = 26;
@@ -27,43 +28,49 @@ struct Layout {
     columns: [usize; Family::COUNT],
 }
 
-// The place on the sheet of the family of a number, for so many lines and sets of pools.
-fn place_of(n: usize, m: usize, lines: usize, sets: usize, f: usize) -> Place
-    requires { f < family_count }
-    ensures { result ≡ place_at n m lines sets f }
+// The place of a family on the sheet, for so many lines and sets of pools.
+fn place_of(n: usize, m: usize, lines: usize, sets: usize, family: Family) -> Place
+    ensures { result ≡ family_place n m lines sets family }
 {
-    match f {
-        BIDS => Place(BIDS, n, Limits::BID_NUMBERS),
-        CAPACITIES => Place(CAPACITIES, m, m),
-        AMOUNTS => Place(AMOUNTS, n, 1),
-        FLOWS => Place(FLOWS, lines, 1),
-        PRICES => Place(PRICES, m, Limits::POOL_RESULTS),
-        TEMPORARIES => Place(TEMPORARIES, 3, 1),
-        ZERO_CELLS => Place(ZERO_CELLS, 1, 1),
-        UNITS => Place(UNITS, 1, 1),
-        SHIFTS => Place(SHIFTS, 1, 1),
-        POOL_NUMBERS => Place(POOL_NUMBERS, m, 1),
-        SIDES => Place(SIDES, n, 1),
-        SIZES => Place(SIZES, n, 1),
-        POSITIVE_PRICES => Place(POSITIVE_PRICES, n, 1),
-        DOUBLES => Place(DOUBLES, n, 1),
-        KEYS => Place(KEYS, n, 1),
-        NEXTS => Place(NEXTS, n, 1),
-        MEMBERSHIPS => Place(MEMBERSHIPS, n, m),
-        POOL_SIZES => Place(POOL_SIZES, n, m),
-        DEMANDS => Place(DEMANDS, m, 1),
-        SUBSETS => Place(SUBSETS, sets, 1),
-        CUTS => Place(CUTS, sets, 1),
-        SIZES_BEFORE => Place(SIZES_BEFORE, n, m),
-        RANKS_BEFORE => Place(RANKS_BEFORE, n, 1),
-        SIZES_WITH => Place(SIZES_WITH, n, m),
-        RANKS_WITH => Place(RANKS_WITH, n, 1),
-        USES => Place(USES, n, 1),
-        PLACEMENTS => Place(PLACEMENTS, m, 1),
-        SLACKS => Place(SLACKS, sets, 1),
-        OFFERS => Place(OFFERS, n, 1),
-        HIGHEST_OFFERS.. => Place(HIGHEST_OFFERS, m, 1),
+    match family {
+        Bids => Place(0, n, Limits::BID_NUMBERS),
+        Capacities => Place(1, m, m),
+        Amounts => Place(2, n, 1),
+        Flows => Place(3, lines, 1),
+        Prices => Place(4, m, Limits::POOL_RESULTS),
+        Temporaries => Place(5, 3, 1),
+        ZeroCells => Place(6, 1, 1),
+        Units => Place(7, 1, 1),
+        Shifts => Place(8, 1, 1),
+        PoolNumbers => Place(9, m, 1),
+        Sides => Place(10, n, 1),
+        Sizes => Place(11, n, 1),
+        PositivePrices => Place(12, n, 1),
+        Doubles => Place(13, n, 1),
+        Keys => Place(14, n, 1),
+        Nexts => Place(15, n, 1),
+        Memberships => Place(16, n, m),
+        PoolSizes => Place(17, n, m),
+        Demands => Place(18, m, 1),
+        Subsets => Place(19, sets, 1),
+        Cuts => Place(20, sets, 1),
+        SizesBefore => Place(21, n, m),
+        RanksBefore => Place(22, n, 1),
+        SizesWith => Place(23, n, m),
+        RanksWith => Place(24, n, 1),
+        Uses => Place(25, n, 1),
+        Placements => Place(26, m, 1),
+        Slacks => Place(27, sets, 1),
+        Offers => Place(28, n, 1),
+        HighestOffers => Place(29, m, 1),
     }
+}
+
+// A family's number.
+fn number(family: Family) -> usize
+    ensures { result ≡ number family }
+{
+    family as usize
 }
 
 // The families one behind the other.
@@ -77,8 +84,8 @@ fn layout_of(counts: Counts) -> Layout
         columns: [0; Family::COUNT],
     };
     let mut end = 0;
-    for f in 0..Family::COUNT {
-        let place = place_of(counts.n, counts.m, lines, sets, f);
+    for (f, family) in Family::ALL.iter().enumerate() {
+        let place = place_of(counts.n, counts.m, lines, sets, *family);
         layout.starts[f] = end;
         layout.columns[f] = place.2;
         end += place.1 * place.2;
@@ -106,29 +113,32 @@ pub struct Tables {
     starts: [usize; STARTS],
     // How many columns each family has.
     columns: [usize; Family::COUNT],
+    // How many scratch cells have names: from the temporaries to the end.
+    scratch: usize,
     // How many orders each phase has.
     pub sizes: [usize; PHASES],
+    ghost scratch_cells: { scratch ≡ scratch_count counts.n counts.m },
     ghost layout: { IsLayout counts.n counts.m starts columns },
     ghost phases: { IsSizes counts.n counts.m sizes },
 }
 
 impl Tables {
-    ghost use Rattle.plan.specs.Plan.{cell_of, Placed};
+    ghost use Rattle.plan.specs.Plan.{cell_of, Placed, PlacedOrder};
     ghost use Rattle.plan.specs.Table.{phase_at, phase_count};
-    ghost use Rattle.orders.specs.Walk.{name_at, named_of, numbered_of};
+    ghost use Rattle.orders.specs.Named.{name_of, named_of, numbered_of};
     ghost use Rattle.orders.specs.Shaped.{IsShape, InPhase, order_in};
-    ghost use Rattle.orders.specs.Cells.{Ready};
 
     fn new(counts: Counts) -> Tables
         ensures { (result.counts.n ≡ counts.n) × (result.counts.m ≡ counts.m) }
     {
         let Layout { starts, columns } = layout_of(counts);
-        let scratch = starts[Family::COUNT] - starts[TEMPORARIES];
+        let scratch = starts[Family::COUNT] - starts[Temporaries as usize];
         let sizes = sizes_of(counts, scratch);
         Tables {
             counts,
             starts,
             columns,
+            scratch,
             sizes,
         }
     }
@@ -142,57 +152,54 @@ impl Tables {
         Ok(Tables::new(counts))
     }
 
-    // How many scratch cells have names: from the temporaries to the end.
-    fn scratch(&self) -> usize
-        ensures { result ≡ scratch_count self.now.counts.n self.now.counts.m }
-    {
-        self.starts[Family::COUNT] - self.starts[TEMPORARIES]
-    }
-
     // The shape of phase k.
     pub fn shape(&self, k: usize) -> Shape
         requires { k < phase_count }
         ensures { IsShape (phase_at self.now.counts.n self.now.counts.m k) result }
     {
-        shape_of(self.counts, self.scratch(), k)
+        shape_of(self.counts, self.scratch, k)
     }
 
     // The cell of a name.
-    fn cell(&self, f: usize, i: usize, j: usize) -> usize
-        requires f_lt_family_count { f < family_count }
-        requires placed { Placed self.now.counts.n self.now.counts.m (name_at f i j) }
-        ensures { result ≡ cell_of self.now.counts.n self.now.counts.m (name_at f i j) }
+    fn cell(&self, name: Name) -> usize
+        requires { Placed self.now.counts.n self.now.counts.m (name_of name) }
+        ensures { result ≡ cell_of self.now.counts.n self.now.counts.m (name_of name) }
     {
-        self.starts[f] + (i * self.columns[f] + j)
+        let f = number(name.family);
+        self.starts[f] + (name.row * self.columns[f] + name.column)
     }
 
     // An order with each name replaced by its cell.
-    fn numbered(&self, o: NamedOrder) -> Order
-        requires { Ready self.now.counts.n self.now.counts.m o }
-        ensures { result ≡ numbered_of self.now.counts.n self.now.counts.m (named_of o) }
+    fn numbered(&self, order: NamedOrder) -> Order
+        requires { PlacedOrder self.now.counts.n self.now.counts.m (named_of order) }
+        ensures { result ≡ numbered_of self.now.counts.n self.now.counts.m (named_of order) }
     {
-        let kind = o.0;
-        let d = self.cell(o.1, o.2, o.3);
-        if kind == CONSTANT {
-            return Order::Constant { d, k: o.4 as u32 };
-        }
-        let a = self.cell(o.4, o.5, o.6);
-        let b = self.cell(o.7, o.8, o.9);
-        match kind {
-            SUM => Order::Sum { d, a, b },
-            DIFFERENCE => Order::Difference { d, a, b },
-            PRODUCT => Order::Product { d, a, b },
-            LESS => Order::Less { d, a, b },
-            _ => Order::Equal { d, a, b },
+        match order {
+            NamedOrder::Constant(d, k) => Order::Constant {
+                d: self.cell(d),
+                k: k as u32,
+            },
+            NamedOrder::Operate(operation, d, a, b) => {
+                let d = self.cell(d);
+                let a = self.cell(a);
+                let b = self.cell(b);
+                match operation {
+                    Operation::Sum => Order::Sum { d, a, b },
+                    Operation::Difference => Order::Difference { d, a, b },
+                    Operation::Product => Order::Product { d, a, b },
+                    Operation::Less => Order::Less { d, a, b },
+                    Operation::Equal => Order::Equal { d, a, b },
+                }
+            }
         }
     }
 
     // The order at a place of phase k.
-    pub fn order(&self, k: usize, i: usize, q: usize, j: usize, r: usize) -> Order
+    pub fn order(&self, k: usize, s: Spot) -> Order
         requires k_lt_phase_count { k < phase_count }
-        requires in_phase { InPhase (phase_at self.now.counts.n self.now.counts.m k) i q j r }
-        ensures { result ≡ numbered_of self.now.counts.n self.now.counts.m (order_in (phase_at self.now.counts.n self.now.counts.m k) i q j r) }
+        requires in_phase { InPhase (phase_at self.now.counts.n self.now.counts.m k) s }
+        ensures { result ≡ numbered_of self.now.counts.n self.now.counts.m (order_in (phase_at self.now.counts.n self.now.counts.m k) s) }
     {
-        self.numbered(order_of(self.counts, k, i, q, j, r))
+        self.numbered(order_of(self.counts, k, s))
     }
 }

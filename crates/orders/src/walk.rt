@@ -8,7 +8,7 @@ ghost use Rattle.orders.specs.Shaped.{IsShape};
 ghost use Rattle.orders.specs.Stretches.{start, position};
 ghost use Rattle.orders.specs.Steps.{IsAt};
 
-use crate::shape::Shape;
+use crate::shape::{Shape, Spot};
 use crate::tables::Tables;
 use definitions::Order;
 
@@ -61,7 +61,13 @@ impl Tables {
         };
         let at = settled(&sizes, first);
         let turn = shape.parts[at.stretch].turn;
-        self.order(k, i, at.stretch, at.before / turn, at.before % turn)
+        let s = Spot {
+            row: i,
+            part: at.stretch,
+            column: at.before / turn,
+            turn: at.before % turn,
+        };
+        self.order(k, s)
     }
 
     // The order at a place of a phase: the plan's at its position.

@@ -2,7 +2,7 @@
 #![tactic(auto)]
 
 // The families of cells, in their order on the sheet: inputs, results, then scratch.
-#[derive(Drop)]
+#[derive(Clone, Copy, Debug, PartialEq, Eq)]
 pub enum Family {
     // Each bid's pool, price and quantity.
     Bids,
@@ -69,8 +69,42 @@ pub enum Family {
 impl Family {
     // How many families there are.
     pub const COUNT: usize = 30;
+
+    // The families, each at its number.
+    pub const ALL: [Family; Family::COUNT] = [
+        Family::Bids,
+        Family::Capacities,
+        Family::Amounts,
+        Family::Flows,
+        Family::Prices,
+        Family::Temporaries,
+        Family::ZeroCells,
+        Family::Units,
+        Family::Shifts,
+        Family::PoolNumbers,
+        Family::Sides,
+        Family::Sizes,
+        Family::PositivePrices,
+        Family::Doubles,
+        Family::Keys,
+        Family::Nexts,
+        Family::Memberships,
+        Family::PoolSizes,
+        Family::Demands,
+        Family::Subsets,
+        Family::Cuts,
+        Family::SizesBefore,
+        Family::RanksBefore,
+        Family::SizesWith,
+        Family::RanksWith,
+        Family::Uses,
+        Family::Placements,
+        Family::Slacks,
+        Family::Offers,
+        Family::HighestOffers,
+    ];
 }
 
 // A family's place on the sheet: its number there, and how many rows and columns it has.
-#[derive(Drop)]
+#[derive(Clone, Copy)]
 pub struct Place(pub usize, pub usize, pub usize);

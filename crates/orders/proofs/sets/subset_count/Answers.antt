@@ -1,5 +1,5 @@
 -- `subset_count` meets its contract: 1 moved up by m binary digits is 2 ^ m, which is far below the width.
-use native.Mathlib.Omega.{arith}
+use Rattle.std.proofs.Common.{arith}
 use Rattle.plan.proofs.PlanFacts.{power_small}
 use Rattle.orders.proofs.sets.subset_count.Goals as goal
 

@@ -1,33 +1,25 @@
--- `ranks` meets its contract.
-use mathlib.Core.Path.{refl, ap, ◌∙◌}
-use native.Mathlib.Omega.{arith}
-use Rattle.definitions.specs.Limits.{greatest_positive}
+-- The first part sums over the sets: the code knows the cell of the lowest pool; the last is the third.
+use Rattle.std.proofs.Common.{refl, ap, ◌∙◌, arith}
+use Rattle.plan.specs.Names.{Name, at}
 use Rattle.plan.specs.Table.{Phase, rank_phase}
-use Rattle.orders.specs.declared.names.NamedOrder.{NamedOrder}
-use Rattle.orders.specs.Families.{numbers_at}
-use Rattle.orders.specs.Walk.{name_at, flat_constant}
-use Rattle.orders.specs.Shaped.{sum_at, one_of, of_part}
+use Rattle.plan.specs.Blocks.{cost_turn}
+use Rattle.orders.specs.Named.{made}
+use Rattle.orders.specs.Shaped.{sum_at, of_part}
 use Rattle.orders.proofs.table.ranks.Goals as goal
 use Rattle.orders.proofs.table.ranks.Goals.{Start}
 
 -- the phase of the function's arguments
 abbrev here : Start → Phase
-here s = rank_phase s.args.n s.args.m (name_at s.args.t) (λ x. name_at s.args.u x 0)
+here s = rank_phase s.args.counts.n s.args.counts.m (at s.args.sizes) (λ x. at s.args.ranks x 0)
 
-pub returns-then-q-eq0 : goal.returns-then-q-eq0
-returns-then-q-eq0 c =
+pub returns-in-0 : goal.returns-in-0
+returns-in-0 c =
     let a = c.args in
-    sum_at (here c.before.before.before) a.i a.q 0 a.j a.r a.m (name_at a.t a.i) c.if-q-eq0.true
-    c.requires.in_phase refl refl _ _ c.subset_order.ensures (ap (name_at a.t a.i) c.lowest_pool.ensures.0)
+    sum_at (here (goal.at.returns-in-0 c).Start) a.s 0 a.counts.m (at a.sizes a.s.row) c.in-0.is c.requires refl refl _ _ c.subset_order.ensures
+    (c.cell.ensures ∙ ap (at a.sizes a.s.row) c.lowest_pool.ensures.0)
 
-pub returns-then-q-eq1 : goal.returns-then-q-eq1
-returns-then-q-eq1 c =
+pub returns-in_default : goal.returns-in_default
+returns-in_default c =
     let a = c.args in
-    numbers_at NamedOrder (λ u _. flat_constant u a.i 0 greatest_positive) a.u a.u c.requires.u_lt_family_count c.requires.u_lt_family_count
-    ∙ one_of (here c.before.before) a.i a.q 1 a.j a.r c.if-q-eq1.true c.requires.in_phase refl
-
-pub returns : goal.returns
-returns c =
-    let a = c.args in
-    c.cost_turn.ensures
-    ∙ of_part (here c.before.before.before) a.i a.q 2 a.j a.r (omega (arith, c.if-q-eq0.false, c.if-q-eq1.false, c.requires.in_phase.part))
+    of_part (here (goal.at.returns-in_default c).Start) a.s 2 _ (omega (arith, c.requires.part))
+    (c.cost_turn.ensures ∙ ap (λ (d : Name). made (cost_turn a.counts.m d a.s.column) a.s.turn) c.first-in_default.ensures)

@@ -1,16 +1,12 @@
--- `slacks` meets its contract.
-use mathlib.Core.Path.{refl, ap}
-use native.Mathlib.Omega.{arith}
+-- The first part sums over the sets: the code knows the cell of the lowest pool.
+use Rattle.std.proofs.Common.{refl, ap, ◌∙◌}
 use Rattle.plan.specs.Names.{Placement}
 use Rattle.plan.specs.Table.{slack_phase}
-use Rattle.orders.specs.Shaped.{sum_at, one_of}
+use Rattle.orders.specs.Shaped.{sum_at}
 use Rattle.orders.proofs.table.slacks.Goals as goal
 
-pub returns-then-q-eq0 : goal.returns-then-q-eq0
-returns-then-q-eq0 c = let a = c.args in
-    sum_at (slack_phase a.n a.m) a.i a.q 0 a.j a.r a.m Placement c.if-q-eq0.true
-    c.requires refl refl _ _ c.subset_order.ensures (ap Placement c.lowest_pool.ensures.0)
-
-pub returns : goal.returns
-returns c = let a = c.args in
-    one_of (slack_phase a.n a.m) a.i a.q 1 a.j a.r (omega (arith, c.if-q-eq0.false, c.requires.part)) c.requires refl
+pub returns-then-s-eq0 : goal.returns-then-s-eq0
+returns-then-s-eq0 c =
+    let n = c.args.counts.n in
+    let m = c.args.counts.m in
+    sum_at (slack_phase n m) c.args.s 0 m Placement c.if-s-eq0.true c.requires refl refl _ _ c.subset_order.ensures (c.first.ensures ∙ ap Placement c.lowest_pool.ensures.0)

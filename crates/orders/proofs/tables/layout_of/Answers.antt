@@ -2,9 +2,9 @@
 use Rattle.std.proofs.Common.{ℕ, ◌+◌, ◌*◌, ◌^◌, ◌≤◌, ◌≡◌, refl, ap, ◌∙◌, arith}
 use Rattle.definitions.specs.Limits.{cell_count}
 use Rattle.plan.specs.declared.Place.{Place}
-use Rattle.plan.specs.Names.{family_count}
+use Rattle.plan.specs.Names.{family_count, family_at, family_place}
 use Rattle.orders.specs.Limits.{limited}
-use Rattle.orders.specs.Tables.{place_at, laid_none, laid_one, laid_all, first_start, next_start, next_on_sheet}
+use Rattle.orders.specs.Tables.{laid_none, laid_one, laid_all, first_start, next_start, next_on_sheet}
 use Rattle.orders.proofs.tables.layout_of.Goals as goal
 use Rattle.orders.proofs.tables.layout_of.Goals.{After-place_of-place}
 
@@ -13,12 +13,12 @@ loop-f-init c = (laid_none _ _ _ _ refl refl, first_start _ _)
 
 -- the place found is that of family f
 placed : (c : After-place_of-place) → let a = c.args.counts in
-    c.place_of-place.result ≡ place_at a.n a.m (a.m * a.m) (2 ^ a.m) c.loop-f.f
+    c.place_of-place.result ≡ family_place a.n a.m (a.m * a.m) (2 ^ a.m) (family_at c.loop-f.f)
 placed c =
     let a = c.args.counts in
     c.place_of-place.ensures
-    ∙ ap (λ (k : ℕ). place_at a.n a.m k c.subset_count-sets.result c.loop-f.f) c.lines-lines.ensures
-    ∙ ap (λ (k : ℕ). place_at a.n a.m (a.m * a.m) k c.loop-f.f) c.subset_count-sets.ensures.0
+    ∙ ap (λ (k : ℕ). family_place a.n a.m k c.subset_count-sets.result (family_at c.loop-f.f)) c.lines-lines.ensures
+    ∙ ap (λ (k : ℕ). family_place a.n a.m (a.m * a.m) k (family_at c.loop-f.f)) c.subset_count-sets.ensures.0
 
 -- so the next family begins on the sheet
 on_sheet : (c : After-place_of-place) → c.loop-f.end + c.place_of-place.result.1 * c.place_of-place.result.2 ≤ cell_count

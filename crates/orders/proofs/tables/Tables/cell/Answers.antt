@@ -4,7 +4,7 @@ use Rattle.orders.specs.Cells.{cell_by}
 use Rattle.orders.proofs.tables.Tables.cell.Goals as goal
 
 pub overflow_add-result-2 : goal.overflow_add-result-2
-overflow_add-result-2 c = omega (arith, (cell_by _ _ _ _ _ _ _ c.args.self.now.layout c.requires.f_lt_family_count c.requires.placed).on_sheet)
+overflow_add-result-2 c = omega (arith, (cell_by _ _ c.args.name _ _ c.args.self.now.layout c.requires _ c.number-f.ensures).on_sheet)
 
 pub returns : goal.returns
-returns c = (cell_by _ _ _ _ _ _ _ c.args.self.now.layout c.requires.f_lt_family_count c.requires.placed).is_cell
+returns c = (cell_by _ _ c.args.name _ _ c.args.self.now.layout c.requires _ c.number-f.ensures).is_cell

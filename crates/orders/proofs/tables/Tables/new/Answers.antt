@@ -8,3 +8,6 @@ overflow_sub-scratch c = omega (arith, scratch_is _ _ _ _ c.layout_of.ensures)
 
 pub sizes_of-sizes-requires : goal.sizes_of-sizes-requires
 sizes_of-sizes-requires c = omega (arith, scratch_is _ _ _ _ c.layout_of.ensures)
+
+pub invariant_of-result-clause-scratch_cells : goal.invariant_of-result-clause-scratch_cells
+invariant_of-result-clause-scratch_cells c = omega (arith, scratch_is _ _ _ _ c.layout_of.ensures)

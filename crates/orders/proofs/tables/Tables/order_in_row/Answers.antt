@@ -18,11 +18,11 @@ turn : (c : After-index-shape-at) → let t = c.args.self.now.counts in
     (get_or c.args.shape.now.parts c.settled-at.result.stretch c.index-shape-at.result).turn ≡ (part_at (phase_at t.n t.m c.args.k) c.settled-at.result.stretch).turn
 turn c = (c.requires.shape.parts c.settled-at.result.stretch c.index-shape-at.result (omega (arith, c.settled-at.ensures.stretch))).1
 
-pub nonzero_div-at : goal.nonzero_div-at
-nonzero_div-at c = let s = goal.at.nonzero_div-at c in some_turn _ c.args.x _ _ _ (there s.After-settled-at) (turn s.After-index-shape-at)
+pub nonzero_div-s : goal.nonzero_div-s
+nonzero_div-s c = let s = goal.at.nonzero_div-s c in some_turn _ c.args.x _ _ _ (there s.After-settled-at) (turn s.After-index-shape-at)
 
-pub nonzero_rem-at : goal.nonzero_rem-at
-nonzero_rem-at c = let s = goal.at.nonzero_rem-at c in some_turn _ c.args.x _ _ _ (there s.After-settled-at) (turn s.After-index-shape-at)
+pub nonzero_rem-s : goal.nonzero_rem-s
+nonzero_rem-s c = let s = goal.at.nonzero_rem-s c in some_turn _ c.args.x _ _ _ (there s.After-settled-at) (turn s.After-index-shape-at)
 
 pub order-requires-clause-in_phase : goal.order-requires-clause-in_phase
 order-requires-clause-in_phase c =

@@ -11,21 +11,21 @@ use Rattle.orders.proofs.tables.Tables.run.Goals as goal
 pub loop-k-init : goal.loop-k-init
 loop-k-init c = ran_none _ _ _
 
-pub loop-i-init : goal.loop-i-init
-loop-i-init c = ran_none _ _ _
+pub loop-row-init : goal.loop-row-init
+loop-row-init c = ran_none _ _ _
 
-pub loop-i-preserved : goal.loop-i-preserved
-loop-i-preserved c =
+pub loop-row-preserved : goal.loop-row-preserved
+loop-row-preserved c =
     let t = c.args.self.now.counts in
-    ran_one t.n t.m (row_of (phase_at t.n t.m c.loop-k.k)) _ _ _ c.loop-i.i c.loop-i.invariant c.run_row.ensures
+    ran_one t.n t.m (row_of (phase_at t.n t.m c.loop-k.k)) _ _ _ c.loop-row.row c.loop-row.invariant c.run_row.ensures
 
 pub loop-k-preserved : goal.loop-k-preserved
 loop-k-preserved c =
     let t = c.args.self.now.counts in
     let p = phase_at t.n t.m c.loop-k.k in
     let f : ℕ → List (OrderOn Name) = λ u. all_rows (phase_at t.n t.m u) in
-    let last : c.loop-i.i ≡ p.rows = omega (arith, c.loop-i-test.false, c.loop-i.auto.i-end, c.shape-shape.ensures.rows) in
-    ran_one t.n t.m f _ _ _ c.loop-k.k c.loop-k.invariant (c.loop-i.invariant ∙ ap (λ (k : ℕ). ran_of t.n t.m (loop k (row_of p)) c.loop-k.sheet) last)
+    let last : c.loop-row.row ≡ p.rows = omega (arith, c.loop-row-test.false, c.loop-row.auto.row-end, c.shape-shape.ensures.rows) in
+    ran_one t.n t.m f _ _ _ c.loop-k.k c.loop-k.invariant (c.loop-row.invariant ∙ ap (λ (k : ℕ). ran_of t.n t.m (loop k (row_of p)) c.loop-k.sheet) last)
 
 pub returns : goal.returns
 unfolding phase_at

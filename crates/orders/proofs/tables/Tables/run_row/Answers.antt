@@ -10,53 +10,53 @@ use Rattle.orders.specs.Limits.{part_limit}
 use Rattle.orders.specs.Shaped.{IsPart, order_in}
 use Rattle.orders.specs.Runs.{ran_of, ran_none, ran_one, step_one, block_ran, row_of_four}
 use Rattle.orders.proofs.tables.Tables.run_row.Goals as goal
-use Rattle.orders.proofs.tables.Tables.run_row.Goals.{After-part-item}
+use Rattle.orders.proofs.tables.Tables.run_row.Goals.{After-columns-item}
 
-pub loop-q-init : goal.loop-q-init
-loop-q-init c = ran_none _ _ _
+pub loop-part-init : goal.loop-part-init
+loop-part-init c = ran_none _ _ _
 
-pub loop-j-init : goal.loop-j-init
-loop-j-init c = ran_none _ _ _
+pub loop-column-init : goal.loop-column-init
+loop-column-init c = ran_none _ _ _
 
-pub loop-r-init : goal.loop-r-init
-loop-r-init c = ran_none _ _ _
+pub loop-turn-init : goal.loop-turn-init
+loop-turn-init c = ran_none _ _ _
 
 -- the part that is run has the numbers of part q
-known : (c : After-part-item) → IsPart (phase_at c.args.self.now.counts.n c.args.self.now.counts.m c.args.k) c.loop-q.q (get_or c.args.shape.now.parts c.loop-q.q c.part-item.result)
-known c = c.requires.shape.parts c.loop-q.q c.part-item.result c.loop-q-test.true
+known : (c : After-columns-item) → IsPart (phase_at c.args.self.now.counts.n c.args.self.now.counts.m c.args.k) c.loop-part.part (get_or c.args.shape.now.parts c.loop-part.part c.columns-item.result)
+known c = c.requires.shape.parts c.loop-part.part c.columns-item.result c.loop-part-test.true
 
-pub loop-r-preserved : goal.loop-r-preserved
+pub loop-turn-preserved : goal.loop-turn-preserved
 unfolding order_in
-loop-r-preserved c =
+loop-turn-preserved c =
     let a = c.args in
     let n = a.self.now.counts.n in
     let m = a.self.now.counts.m in
-    let part = part_at (phase_at n m a.k) c.loop-q.q in
-    let is = known (goal.at.loop-r-preserved c).After-part-item in
-    step_one n m (part.block a.i c.loop-j.j) _ _ _ c.loop-r.r c.loop-r.invariant (omega (arith, c.loop-r-test.true, is.1, part.fair a.i c.loop-j.j))
-    (c.step.ensures ∙ ap (stepped c.loop-r.sheet) c.order.ensures)
+    let part = part_at (phase_at n m a.k) c.loop-part.part in
+    let is = known (goal.at.loop-turn-preserved c).After-columns-item in
+    step_one n m (part.block a.row c.loop-column.column) _ _ _ c.loop-turn.turn c.loop-turn.invariant (omega (arith, c.loop-turn-test.true, is.1, part.fair a.row c.loop-column.column))
+    (c.step.ensures ∙ ap (stepped c.loop-turn.sheet) c.order.ensures)
 
-pub loop-j-preserved : goal.loop-j-preserved
-loop-j-preserved c =
+pub loop-column-preserved : goal.loop-column-preserved
+loop-column-preserved c =
     let a = c.args in
     let n = a.self.now.counts.n in
     let m = a.self.now.counts.m in
-    let part = part_at (phase_at n m a.k) c.loop-q.q in
-    let is = known (goal.at.loop-j-preserved c).After-part-item in
-    ran_one n m (part.block a.i) _ _ _ c.loop-j.j c.loop-j.invariant
-    (block_ran n m (part.block a.i c.loop-j.j) _ _ c.loop-r.r c.loop-r.invariant (omega (arith, c.loop-r-test.false, c.loop-r.auto.r-end, is.1, part.fair a.i c.loop-j.j)))
+    let part = part_at (phase_at n m a.k) c.loop-part.part in
+    let is = known (goal.at.loop-column-preserved c).After-columns-item in
+    ran_one n m (part.block a.row) _ _ _ c.loop-column.column c.loop-column.invariant
+    (block_ran n m (part.block a.row c.loop-column.column) _ _ c.loop-turn.turn c.loop-turn.invariant (omega (arith, c.loop-turn-test.false, c.loop-turn.auto.turn-end, is.1, part.fair a.row c.loop-column.column)))
 
-pub loop-q-preserved : goal.loop-q-preserved
-loop-q-preserved c =
+pub loop-part-preserved : goal.loop-part-preserved
+loop-part-preserved c =
     let a = c.args in
     let n = a.self.now.counts.n in
     let m = a.self.now.counts.m in
     let p = phase_at n m a.k in
-    let f : ℕ → List (OrderOn Name) = λ u. stretch a.i (part_at p u) in
-    let is = known (goal.at.loop-q-preserved c).After-part-item in
-    let last : c.loop-j.j ≡ (part_at p c.loop-q.q).columns = omega (arith, c.loop-j-test.false, c.loop-j.auto.j-end, is.0) in
-    ran_one n m f _ _ _ c.loop-q.q c.loop-q.invariant
-    (c.loop-j.invariant ∙ ap (λ (k : ℕ). ran_of n m (loop k ((part_at p c.loop-q.q).block a.i)) c.loop-q.sheet) last)
+    let f : ℕ → List (OrderOn Name) = λ u. stretch a.row (part_at p u) in
+    let is = known (goal.at.loop-part-preserved c).After-columns-item in
+    let last : c.loop-column.column ≡ (part_at p c.loop-part.part).columns = omega (arith, c.loop-column-test.false, c.loop-column.auto.column-end, is.0) in
+    ran_one n m f _ _ _ c.loop-part.part c.loop-part.invariant
+    (c.loop-column.invariant ∙ ap (λ (k : ℕ). ran_of n m (loop k ((part_at p c.loop-part.part).block a.row)) c.loop-part.sheet) last)
 
 pub returns : goal.returns
 returns c =
@@ -64,8 +64,8 @@ returns c =
     let n = a.self.now.counts.n in
     let m = a.self.now.counts.m in
     let p = phase_at n m a.k in
-    let f : ℕ → List (OrderOn Name) = λ u. stretch a.i (part_at p u) in
-    let last : c.loop-q.q ≡ part_limit = omega (arith, c.loop-q-test.false, c.loop-q.auto.q-end) in
-    c.loop-q.invariant
+    let f : ℕ → List (OrderOn Name) = λ u. stretch a.row (part_at p u) in
+    let last : c.loop-part.part ≡ part_limit = omega (arith, c.loop-part-test.false, c.loop-part.auto.part-end) in
+    c.loop-part.invariant
     ∙ ap (λ (k : ℕ). ran_of n m (loop k f) a.sheet.now) last
-    ∙ ap (λ (l : List (OrderOn Name)). ran_of n m l a.sheet.now) (row_of_four p a.i c.requires.shape.most)
+    ∙ ap (λ (l : List (OrderOn Name)). ran_of n m l a.sheet.now) (row_of_four p a.row c.requires.shape.most)
