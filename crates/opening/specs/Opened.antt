@@ -2,7 +2,7 @@
 -- signed price and the presence (`opened_outcome`).
 use Rattle.std.specs.Prelude.{ℕ, zero, suc, ◌+◌, ◌*◌, ◌≤◌, ◌<◌, ◌≡◌, refl, Bool, true, false, cond, length, take, drop, ℤ, pos, nat_abs, List, [], ◌∷◌, ◌++◌, map}
 use Rattle.std.proofs.Common.{ap, ap₂, ◌∙◌, mul-le-mul, drop-cons, drop-drop, take-add, arith}
-use mathlib.Core.List.{map-append}
+use Rattle.std.proofs.lemmas.List.{map-append}
 use Rattle.std.proofs.Math.Arith.{digits_lt}
 use Rattle.std.specs.Int.Signed.{lt_z}
 use Rattle.definitions.specs.Limits.{pool_limit, price_limit, greatest_positive, pool_results}
