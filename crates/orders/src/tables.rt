@@ -124,9 +124,10 @@ pub struct Tables {
 
 impl Tables {
     ghost use Rattle.plan.specs.Plan.{cell_of, Placed, PlacedOrder};
-    ghost use Rattle.plan.specs.Table.{phase_at, phase_count};
+    ghost use Rattle.plan.specs.Table.{phase_count};
     ghost use Rattle.orders.specs.Named.{name_of, named_of, numbered_of};
-    ghost use Rattle.orders.specs.Shaped.{IsShape, InPhase, order_in};
+    ghost use Rattle.orders.specs.Shaped.{IsShape, InPhase};
+    ghost use Rattle.orders.specs.Plans.{phase_of, order_at};
 
     fn new(counts: Counts) -> Tables
         ensures { (result.counts.n ≡ counts.n) × (result.counts.m ≡ counts.m) }
@@ -155,7 +156,7 @@ impl Tables {
     // The shape of phase k.
     pub fn shape(&self, k: usize) -> Shape
         requires { k < phase_count }
-        ensures { IsShape (phase_at self.now.counts.n self.now.counts.m k) result }
+        ensures { IsShape (phase_of self.now k) result }
     {
         shape_of(self.counts, self.scratch, k)
     }
@@ -197,8 +198,8 @@ impl Tables {
     // The order at a place of phase k.
     pub fn order(&self, k: usize, s: Spot) -> Order
         requires k_lt_phase_count { k < phase_count }
-        requires in_phase { InPhase (phase_at self.now.counts.n self.now.counts.m k) s }
-        ensures { result ≡ numbered_of self.now.counts.n self.now.counts.m (order_in (phase_at self.now.counts.n self.now.counts.m k) s) }
+        requires in_phase { InPhase (phase_of self.now k) s }
+        ensures { result ≡ order_at self.now k s }
     {
         self.numbered(order_of(self.counts, k, s))
     }
