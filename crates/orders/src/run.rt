@@ -1,4 +1,6 @@
 // The plan run by nested loops over its phases: no position is divided.
+#![tactic(auto, using(crate::specs::Runs::ran_none, crate::specs::Runs::ran_one, crate::specs::Runs::step_one, crate::specs::Runs::block_ran))]
+
 ghost use Rattle.std.specs.Prelude.{◌≡◌, ◌<◌};
 ghost use Rattle.machine.specs.Step.{stepped_all};
 ghost use Rattle.plan.specs.Phased.{row_of};

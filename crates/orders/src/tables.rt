@@ -1,5 +1,5 @@
 // The tables that a plan is made by: where each family of cells stands on the sheet, and how many orders each phase has.
-ghost use Rattle.std.specs.Prelude.{◌≡◌, ◌<◌, IfOk};
+ghost use Rattle.std.specs.Prelude.{◌≡◌, ◌*◌, ◌^◌, ◌<◌, IfOk};
 ghost use Rattle.definitions.specs.Answers.{refusal_of};
 ghost use Rattle.definitions.specs.Calls.{counts_refusal};
 ghost use Rattle.plan.specs.Names.{number, family_place};
@@ -28,10 +28,14 @@ struct Layout {
     columns: [usize; Family::COUNT],
 }
 
-// The place of a family on the sheet, for so many lines and sets of pools.
-fn place_of(n: usize, m: usize, lines: usize, sets: usize, family: Family) -> Place
-    ensures { result ≡ family_place n m lines sets family }
+// The place of a family on the sheet.
+fn place_of(counts: Counts, family: Family) -> Place
+    ensures { result ≡ family_place counts.n counts.m (counts.m * counts.m) (2 ^ counts.m) family }
 {
+    let n = counts.n;
+    let m = counts.m;
+    let lines = counts.lines();
+    let sets = subset_count(m);
     match family {
         Bids => Place(0, n, Limits::BID_NUMBERS),
         Capacities => Place(1, m, m),
@@ -77,15 +81,13 @@ fn number(family: Family) -> usize
 fn layout_of(counts: Counts) -> Layout
     ensures { IsLayout counts.n counts.m result.starts result.columns }
 {
-    let lines = counts.lines();
-    let sets = subset_count(counts.m);
     let mut layout = Layout {
         starts: [0; STARTS],
         columns: [0; Family::COUNT],
     };
     let mut end = 0;
     for (f, family) in Family::ALL.iter().enumerate() {
-        let place = place_of(counts.n, counts.m, lines, sets, *family);
+        let place = place_of(counts, *family);
         layout.starts[f] = end;
         layout.columns[f] = place.2;
         end += place.1 * place.2;
@@ -171,6 +173,7 @@ impl Tables {
     }
 
     // An order with each name replaced by its cell.
+    #[tactic(auto, unfolding(crate::specs::Named::numbered_of))]
     fn numbered(&self, order: NamedOrder) -> Order
         requires { PlacedOrder self.now.counts.n self.now.counts.m (named_of order) }
         ensures { result ≡ numbered_of self.now.counts.n self.now.counts.m (named_of order) }

@@ -1,8 +1,8 @@
 -- `layout_of` meets its contract. The loop has laid the first f families; the next begins on the sheet.
-use Rattle.std.proofs.Common.{ℕ, ◌+◌, ◌*◌, ◌^◌, ◌≤◌, ◌≡◌, refl, ap, ◌∙◌, arith}
+use Rattle.std.proofs.Common.{◌+◌, ◌*◌, ◌≤◌, ◌≡◌, refl, ap, arith}
 use Rattle.definitions.specs.Limits.{cell_count}
 use Rattle.plan.specs.declared.Place.{Place}
-use Rattle.plan.specs.Names.{family_count, family_at, family_place}
+use Rattle.plan.specs.Names.{family_count}
 use Rattle.orders.specs.Limits.{limited}
 use Rattle.orders.specs.Tables.{laid_none, laid_one, laid_all, first_start, next_start, next_on_sheet}
 use Rattle.orders.proofs.tables.layout_of.Goals as goal
@@ -11,20 +11,11 @@ use Rattle.orders.proofs.tables.layout_of.Goals.{After-place_of-place}
 pub loop-f-init : goal.loop-f-init
 loop-f-init c = (laid_none _ _ _ _ refl refl, first_start _ _)
 
--- the place found is that of family f
-placed : (c : After-place_of-place) → let a = c.args.counts in
-    c.place_of-place.result ≡ family_place a.n a.m (a.m * a.m) (2 ^ a.m) (family_at c.loop-f.f)
-placed c =
-    let a = c.args.counts in
-    c.place_of-place.ensures
-    ∙ ap (λ (k : ℕ). family_place a.n a.m k c.subset_count-sets.result (family_at c.loop-f.f)) c.lines-lines.ensures
-    ∙ ap (λ (k : ℕ). family_place a.n a.m (a.m * a.m) k (family_at c.loop-f.f)) c.subset_count-sets.ensures.0
-
--- so the next family begins on the sheet
+-- the next family begins on the sheet
 on_sheet : (c : After-place_of-place) → c.loop-f.end + c.place_of-place.result.1 * c.place_of-place.result.2 ≤ cell_count
 on_sheet c =
     let a = c.args.counts in
-    next_on_sheet a.n a.m c.loop-f.f c.loop-f.end c.place_of-place.result (limited a) c.loop-f-test.true (placed c) c.loop-f.invariant.1
+    next_on_sheet a.n a.m c.loop-f.f c.loop-f.end c.place_of-place.result (limited a) c.loop-f-test.true c.place_of-place.ensures c.loop-f.invariant.1
 
 pub overflow_mul-end : goal.overflow_mul-end
 overflow_mul-end c = omega (arith, on_sheet (goal.at.overflow_mul-end c).After-place_of-place)
@@ -36,7 +27,7 @@ pub loop-f-preserved : goal.loop-f-preserved
 loop-f-preserved c =
     let a = c.args.counts in
     let place = c.place_of-place.result in
-    let is = placed (goal.at.loop-f-preserved c).After-place_of-place in (
+    let is = c.place_of-place.ensures in (
       laid_one a.n a.m _ _ place.2 _ _ c.loop-f.invariant.0 c.loop-f-test.true c.loop-f.invariant.1 (ap (λ (p : Place). p.2) is),
       next_start a.n a.m c.loop-f.f c.loop-f.end place is c.loop-f.invariant.1,
     )
