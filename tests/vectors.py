@@ -10,15 +10,24 @@ import compare
 import damaged
 
 CRATE = pathlib.Path(__file__).parent.parent / "crates" / "vectors"
-CALL = re.compile(r'^    show(?:_after)?\(\s*rt,\s*(b"[^;]*)\)\?;$', re.MULTILINE)
-LITERAL = re.compile(r'b"[^"]*"')
+FIRST = re.compile(r'^    show\(\s*rt,\s*(b"[^"]*",)?', re.MULTILINE)
+PAIR = re.compile(r'\(\s*"([^"]*)",\s*(b?"[^"]*"),?\s*\)')
 
 
-def calls(name):
-    """The name that each call prints, and the byte strings that it runs."""
+def literal(text):
+    """The bytes of a literal, be it text or bytes."""
+    return ast.literal_eval(text if text.startswith("b") else "b" + text)
+
+
+def shown(name):
+    """The name that stands before each answer, and the byte strings that it runs: those that are run first, if the call has some, and its own."""
     source = (CRATE / "src" / name).read_text()
-    found = [[ast.literal_eval(literal) for literal in LITERAL.findall(call)] for call in CALL.findall(source)]
-    return [(call[0].decode("ascii"), call[1:]) for call in found]
+    calls = list(FIRST.finditer(source))
+    found = []
+    for call, end in zip(calls, [call.start() for call in calls[1:]] + [len(source)]):
+        first = [literal(call.group(1)[:-1])] if call.group(1) else []
+        found += [(name + "\n", first + [literal(data)]) for name, data in PAIR.findall(source[call.end():end])]
+    return found
 
 
 def answers(output, names):
@@ -35,7 +44,7 @@ def answers(output, names):
 
 
 def main():
-    texts, plans = calls("texts.rt"), calls("plans.rt")
+    texts, plans = shown("texts.rt"), shown("plans.rt")
     assert texts and plans
     found = answers((CRATE / "stdout").read_text(), [name for name, _ in texts + plans])
     for (name, (data,)), answer in zip(texts, found):

@@ -1,377 +1,289 @@
-// The calls: a function for each form of input says whether the input has that form, and if so makes the call and prints what it gives and leaves.
+// The calls: a function for each reads the form of its input, makes the call and prints what it gives and leaves.
 // Word 0 is the call; behind it stand the call's numbers, then its slices. Each slice that is lent is a part, of the length given, of an array that
-// has room for any input.
-use answers::parts_of;
+// has room for any input. Each function takes what prints and what is read, as two values: one of both would only be taken apart.
 use checking::check;
 use clearing::clear;
-use definitions::{Order, Parts, Verdict};
+use definitions::{LentBook, Order, Parts, Reason};
+use feasible::Sent;
 use judging::judge_bid;
 use opening::open;
 use orders::{Asked, Plan, Position, Written, write_plan};
-use printing::{
-    print_bytes, print_integers, print_number, print_numbers, print_signed, print_verdict,
-    print_words,
-};
+use printing::{print_number, print_numbers, print_verdict};
 use runner::run;
 use sealing::seal;
 use std::io;
 use views::view;
 use words::{
-    after_slice, copy_bytes, copy_signed, copy_words, is_call, is_call_with_bytes, number,
-    room_for_bytes, room_for_signed, room_for_words, signed, slice_length, word,
+    FromWord, Words, copy, number, room, signed, slice_length, slices, slices_and_bytes, word,
 };
 
+// Why a call is not made or not printed: the input is that of no call, or a write failed.
+#[derive(Drop)]
+pub enum Failure {
+    Unreadable,
+    Write(io::Error),
+}
+
+impl From<io::Error> for Failure {
+    fn from(error: io::Error) -> Failure {
+        Failure::Write(error)
+    }
+}
+
+// Which call is made.
 #[derive(Clone, Copy)]
-pub struct Call {}
+pub enum Call {
+    Bid,
+    Seal,
+    Open,
+    Clear,
+    Run,
+    Ask,
+    Total,
+    Write,
+    View,
+    Check,
+}
+
+impl TryFrom<u32> for Call {
+    type Error = Failure;
+
+    fn try_from(word: u32) -> Result<Call, Failure> {
+        match word {
+            1 => Ok(Call::Bid),
+            2 => Ok(Call::Seal),
+            3 => Ok(Call::Open),
+            4 => Ok(Call::Clear),
+            5 => Ok(Call::Run),
+            6 => Ok(Call::Ask),
+            7 => Ok(Call::Total),
+            8 => Ok(Call::Write),
+            9 => Ok(Call::View),
+            10 => Ok(Call::Check),
+            _ => Err(Failure::Unreadable),
+        }
+    }
+}
 
 impl Call {
-    pub const BID: usize = 1;
-
-    pub const SEAL: usize = 2;
-
-    pub const OPEN: usize = 3;
-
-    pub const CLEAR: usize = 4;
-
-    pub const RUN: usize = 5;
-
-    pub const ASK: usize = 6;
-
-    pub const TOTAL: usize = 7;
-
-    pub const WRITE: usize = 8;
-
-    pub const VIEW: usize = 9;
-
-    pub const CHECK: usize = 10;
+    pub fn make(self, rt: &impl Print, input: &[u8]) -> Result<(), Failure> {
+        match self {
+            Call::Bid => call_bid(rt, input),
+            Call::Seal => call_seal(rt, input),
+            Call::Open => call_open(rt, input),
+            Call::Clear => call_clear(rt, input),
+            Call::Run => call_run(rt, input),
+            Call::Ask => call_ask(rt, input),
+            Call::Total => call_total(rt, input),
+            Call::Write => call_write(rt, input),
+            Call::View => call_view(rt, input),
+            Call::Check => call_check(rt, input),
+        }
+    }
 }
 
-// ---- What several calls print
+// ---- What is lent
 
-// The verdict and the count of orders.
-fn print_counted(rt: &impl Print, verdict: Verdict, orders: usize) -> io::Result<()> {
-    print_verdict(rt, verdict)?;
-    print_number(rt, b"orders", orders)
+// Lends as much of a room as the slice at a position fills, with the slice's entries in it.
+fn lend<'a, T: FromWord>(input: &[u8], at: usize, room: &'a mut [T; Words::ROOM]) -> &'a mut [T] {
+    let places = &mut room[..slice_length(input, at)];
+    copy(input, at, places);
+    places
 }
 
-fn print_next(rt: &impl Print, position: usize) -> io::Result<()> {
-    print_number(rt, b"next", position)
+// Room for the tables of any book.
+#[derive(Drop)]
+struct Tables {
+    bids: [i32; Words::ROOM],
+    capacities: [i32; Words::ROOM],
 }
 
-fn print_sheet(rt: &impl Print, sheet: &[u32]) -> io::Result<()> {
-    print_words(rt, b"sheet", sheet)
+impl Tables {
+    fn new() -> Tables {
+        Tables {
+            bids: room(),
+            capacities: room(),
+        }
+    }
+
+    // Lends the book of n and m, which are words 1 and 2, with the tables at two positions.
+    fn lend(&mut self, input: &[u8], bids: usize, capacities: usize) -> LentBook<'_> {
+        LentBook {
+            n: number(input, 1),
+            m: number(input, 2),
+            bids: lend(input, bids, &mut self.bids),
+            capacities: lend(input, capacities, &mut self.capacities),
+        }
+    }
 }
 
 // ---- A bid alone: m and the bid's numbers
 
-pub fn call_bid(rt: &impl Print, input: &[u8]) -> io::Result<bool> {
-    if !is_call(input, 5, 0) {
-        return Ok(false);
-    }
+fn call_bid(rt: &impl Print, input: &[u8]) -> Result<(), Failure> {
+    let [] = slices::<0>(input, 5).ok_or(Failure::Unreadable)?;
     let m = number(input, 1);
-    print_verdict(
-        rt,
-        judge_bid(m, signed(input, 2), signed(input, 3), signed(input, 4)),
-    )?;
-    Ok(true)
+    let verdict = judge_bid(m, signed(input, 2), signed(input, 3), signed(input, 4));
+    Ok(print_verdict(rt, verdict)?)
 }
 
 // ---- Calls on a book: n and m; bids, capacities, sheet
 
-fn call_seal(
-    rt: &impl Print,
-    n: usize,
-    m: usize,
-    bids: &[i32],
-    capacities: &[i32],
-    sheet: &mut [u32],
-) -> io::Result<()> {
-    print_verdict(rt, seal(n, m, bids, capacities, sheet))?;
-    print_sheet(rt, sheet)
+fn call_seal(rt: &impl Print, input: &[u8]) -> Result<(), Failure> {
+    let [bids, capacities, sheet] = slices::<3>(input, 3).ok_or(Failure::Unreadable)?;
+    let mut tables = Tables::new();
+    let book = tables.lend(input, bids, capacities);
+    let mut cells = room();
+    let sheet = lend(input, sheet, &mut cells);
+    print_verdict(rt, seal(&book, sheet).map(|_| ()))?;
+    Ok(print_numbers(rt, b"sheet", sheet)?)
 }
 
-fn call_clear(
-    rt: &impl Print,
-    n: usize,
-    m: usize,
-    bids: &[i32],
-    capacities: &[i32],
-    sheet: &mut [u32],
-) -> io::Result<()> {
-    let cleared = clear(n, m, bids, capacities, sheet);
-    print_counted(rt, cleared.verdict, cleared.orders)?;
-    print_signed(rt, b"welfare", cleared.welfare)?;
-    print_sheet(rt, sheet)
+fn call_clear(rt: &impl Print, input: &[u8]) -> Result<(), Failure> {
+    let [bids, capacities, sheet] = slices::<3>(input, 3).ok_or(Failure::Unreadable)?;
+    let mut tables = Tables::new();
+    let book = tables.lend(input, bids, capacities);
+    let mut cells = room();
+    let sheet = lend(input, sheet, &mut cells);
+    let cleared = clear(&book, sheet);
+    print_counted(rt, cleared.map(|cleared| cleared.orders))?;
+    print_number(rt, b"welfare", cleared.map_or(0, |cleared| cleared.welfare))?;
+    Ok(print_numbers(rt, b"sheet", sheet)?)
 }
 
-// Two signed slices in a row.
-fn copy_pair(input: &[u8], at: usize, first: &mut [i32], second: &mut [i32]) {
-    copy_signed(input, at, first);
-    copy_signed(input, after_slice(input, at), second);
-}
-
-fn copy_book(input: &[u8], bids: &mut [i32], capacities: &mut [i32], sheet: &mut [u32]) {
-    let third = after_slice(input, after_slice(input, 3));
-    copy_pair(input, 3, bids, capacities);
-    copy_words(input, third, sheet);
-}
-
-fn lend_book(
-    rt: &impl Print,
-    input: &[u8],
-    bids: &mut [i32],
-    capacities: &mut [i32],
-    sheet: &mut [u32],
-) -> io::Result<()> {
-    copy_book(input, bids, capacities, sheet);
-    let n = number(input, 1);
-    let m = number(input, 2);
-    if number(input, 0) == Call::SEAL {
-        call_seal(rt, n, m, bids, capacities, sheet)
-    } else {
-        call_clear(rt, n, m, bids, capacities, sheet)
-    }
-}
-
-pub fn call_book(rt: &impl Print, input: &[u8]) -> io::Result<bool> {
-    if !is_call(input, 3, 3) {
-        return Ok(false);
-    }
-    let second = after_slice(input, 3);
-    let third = after_slice(input, second);
-    let mut bids = room_for_signed();
-    let mut capacities = room_for_signed();
-    let mut sheet = room_for_words();
-    let b = slice_length(input, 3);
-    let c = slice_length(input, second);
-    let s = slice_length(input, third);
-    lend_book(
-        rt,
-        input,
-        &mut bids[..b],
-        &mut capacities[..c],
-        &mut sheet[..s],
-    )?;
-    Ok(true)
+// The verdict and the count of orders, 0 on a refusal.
+fn print_counted(rt: &impl Print, orders: Result<usize, Reason>) -> io::Result<()> {
+    print_verdict(rt, orders.map(|_| ()))?;
+    print_number(rt, b"orders", orders.unwrap_or(0))
 }
 
 // ---- Opening: n and m; sheet, results
 
-fn lend_results(
-    rt: &impl Print,
-    input: &[u8],
-    second: usize,
-    sheet: &mut [u32],
-    results: &mut [i32],
-) -> io::Result<()> {
-    copy_words(input, 3, sheet);
-    copy_signed(input, second, results);
+fn call_open(rt: &impl Print, input: &[u8]) -> Result<(), Failure> {
+    let [sheet, results] = slices::<2>(input, 3).ok_or(Failure::Unreadable)?;
+    let mut cells = room();
+    let sheet = lend(input, sheet, &mut cells);
+    let mut numbers = room();
+    let results = lend(input, results, &mut numbers);
     print_verdict(rt, open(number(input, 1), number(input, 2), sheet, results))?;
-    print_integers(rt, b"results", results)
-}
-
-pub fn call_open(rt: &impl Print, input: &[u8]) -> io::Result<bool> {
-    if !is_call(input, 3, 2) {
-        return Ok(false);
-    }
-    let second = after_slice(input, 3);
-    let mut sheet = room_for_words();
-    let mut results = room_for_signed();
-    let s = slice_length(input, 3);
-    let r = slice_length(input, second);
-    lend_results(rt, input, second, &mut sheet[..s], &mut results[..r])?;
-    Ok(true)
+    Ok(print_numbers(rt, b"results", results)?)
 }
 
 // ---- Running: sheet, bytes
 
-fn lend_bytes(
-    rt: &impl Print,
-    input: &[u8],
-    second: usize,
-    sheet: &mut [u32],
-    bytes: &mut [u8],
-) -> io::Result<()> {
-    copy_words(input, 1, sheet);
-    copy_bytes(input, second, bytes);
-    let ran = run(sheet, bytes);
-    print_counted(rt, ran.verdict, ran.orders)?;
-    print_sheet(rt, sheet)
-}
-
-pub fn call_run(rt: &impl Print, input: &[u8]) -> io::Result<bool> {
-    if !is_call_with_bytes(input, 1, 1) {
-        return Ok(false);
-    }
-    let second = after_slice(input, 1);
-    let mut sheet = room_for_words();
-    let mut bytes = room_for_bytes();
-    let s = slice_length(input, 1);
-    let b = slice_length(input, second);
-    lend_bytes(rt, input, second, &mut sheet[..s], &mut bytes[..b])?;
-    Ok(true)
+fn call_run(rt: &impl Print, input: &[u8]) -> Result<(), Failure> {
+    let ([sheet], plan) = slices_and_bytes::<1>(input, 1).ok_or(Failure::Unreadable)?;
+    let mut cells = room();
+    let sheet = lend(input, sheet, &mut cells);
+    let mut bytes = room();
+    let plan = lend(input, plan, &mut bytes);
+    print_counted(rt, run(sheet, plan))?;
+    Ok(print_numbers(rt, b"sheet", sheet)?)
 }
 
 // ---- Asking the plan: n, m and a position
 
-// An order's kind and target, then its constant or the two cells that it reads.
-fn print_parts(rt: &impl Print, parts: Parts) -> io::Result<()> {
-    let kind = parts.kind as usize;
-    if kind == 0 {
-        return print_numbers(rt, b"order", &[kind, parts.d, parts.k as usize]);
+fn call_ask(rt: &impl Print, input: &[u8]) -> Result<(), Failure> {
+    let [] = slices::<0>(input, 4).ok_or(Failure::Unreadable)?;
+    let position = Position {
+        n: number(input, 1),
+        m: number(input, 2),
+        at: number(input, 3),
+    };
+    let asked = position.ask();
+    print_verdict(rt, asked.map(|_| ()))?;
+    if let Ok(asked) = asked {
+        print_asked(rt, asked)?;
     }
-    print_numbers(rt, b"order", &[kind, parts.d, parts.a, parts.b])
-}
-
-fn print_order(rt: &impl Print, order: Order, next: Position) -> io::Result<()> {
-    print_verdict(rt, Verdict::Accepted)?;
-    print_parts(rt, parts_of(order))?;
-    print_next(rt, next.at)
-}
-
-fn print_ended(rt: &impl Print) -> io::Result<()> {
-    print_verdict(rt, Verdict::Accepted)?;
-    rt.write_all(b"ended\n")
+    Ok(())
 }
 
 fn print_asked(rt: &impl Print, asked: Asked) -> io::Result<()> {
     match asked {
-        Asked::Order(order, next) => print_order(rt, order, next),
-        Asked::Ended => print_ended(rt),
-        Asked::Refused(verdict) => print_verdict(rt, verdict),
+        Asked::Order(order, next) => {
+            print_order(rt, order)?;
+            print_number(rt, b"next", next.at)
+        }
+        Asked::Ended => rt.println("ended"),
     }
 }
 
-pub fn call_ask(rt: &impl Print, input: &[u8]) -> io::Result<bool> {
-    if !is_call(input, 4, 0) {
-        return Ok(false);
+// An order's kind and target, then its constant or the two cells that it reads.
+fn print_order(rt: &impl Print, order: Order) -> io::Result<()> {
+    let Parts { kind, d, k, a, b } = Parts::from(order);
+    match order {
+        Order::Constant { .. } => println!(rt; "order {kind} {d} {k}"),
+        _ => println!(rt; "order {kind} {d} {a} {b}"),
     }
-    let n = number(input, 1);
-    let m = number(input, 2);
-    let at = number(input, 3);
-    let position = Position { n, m, at };
-    print_asked(rt, position.ask())?;
-    Ok(true)
 }
 
 // ---- The plan's total: n and m
 
-pub fn call_total(rt: &impl Print, input: &[u8]) -> io::Result<bool> {
-    if !is_call(input, 3, 0) {
-        return Ok(false);
-    }
-    let total = Plan::total(number(input, 1), number(input, 2));
-    print_counted(rt, total.verdict, total.orders)?;
-    Ok(true)
+fn call_total(rt: &impl Print, input: &[u8]) -> Result<(), Failure> {
+    let [] = slices::<0>(input, 3).ok_or(Failure::Unreadable)?;
+    Ok(print_counted(rt, Plan::total(number(input, 1), number(input, 2)))?)
 }
 
 // ---- Writing the plan: n, m and a position; bytes
 
-fn print_written(rt: &impl Print, written: Written) -> io::Result<()> {
-    print_verdict(rt, written.verdict)?;
-    print_number(rt, b"bytes", written.bytes)?;
-    print_number(rt, b"orders", written.orders)?;
-    print_next(rt, written.next)
-}
-
-fn lend_slice(rt: &impl Print, input: &[u8], slice: &mut [u8]) -> io::Result<()> {
-    copy_bytes(input, 4, slice);
+fn call_write(rt: &impl Print, input: &[u8]) -> Result<(), Failure> {
+    let ([], slice) = slices_and_bytes::<0>(input, 4).ok_or(Failure::Unreadable)?;
+    let mut bytes = room();
+    let slice = lend(input, slice, &mut bytes);
     print_written(
         rt,
         write_plan(number(input, 1), number(input, 2), number(input, 3), slice),
     )?;
-    print_bytes(rt, b"slice", slice)
+    Ok(print_numbers(rt, b"slice", slice)?)
 }
 
-pub fn call_write(rt: &impl Print, input: &[u8]) -> io::Result<bool> {
-    if !is_call_with_bytes(input, 4, 0) {
-        return Ok(false);
-    }
-    let mut bytes = room_for_bytes();
-    let size = slice_length(input, 4);
-    lend_slice(rt, input, &mut bytes[..size])?;
-    Ok(true)
+// The verdict and the counts, 0 on a refusal.
+fn print_written(rt: &impl Print, written: Result<Written, Reason>) -> io::Result<()> {
+    print_verdict(rt, written.map(|_| ()))?;
+    let written = written.unwrap_or(Written {
+        bytes: 0,
+        orders: 0,
+        next: 0,
+    });
+    print_number(rt, b"bytes", written.bytes)?;
+    print_number(rt, b"orders", written.orders)?;
+    print_number(rt, b"next", written.next)
 }
 
 // ---- A holder's view: n, m and the holder; table, results, view
 
-fn copy_view(input: &[u8], table: &mut [u32], results: &mut [i32], out: &mut [i32]) {
-    copy_words(input, 4, table);
-    copy_pair(input, after_slice(input, 4), results, out);
-}
-
-fn lend_view(
-    rt: &impl Print,
-    input: &[u8],
-    table: &mut [u32],
-    results: &mut [i32],
-    out: &mut [i32],
-) -> io::Result<()> {
-    copy_view(input, table, results, out);
-    let n = number(input, 1);
-    let m = number(input, 2);
-    print_verdict(rt, view(n, m, table, word(input, 3), results, out))?;
-    print_integers(rt, b"view", out)
-}
-
-pub fn call_view(rt: &impl Print, input: &[u8]) -> io::Result<bool> {
-    if !is_call(input, 4, 3) {
-        return Ok(false);
-    }
-    let second = after_slice(input, 4);
-    let third = after_slice(input, second);
-    let mut table = room_for_words();
-    let mut results = room_for_signed();
-    let mut out = room_for_signed();
-    let t = slice_length(input, 4);
-    let r = slice_length(input, second);
-    let v = slice_length(input, third);
-    lend_view(rt, input, &mut table[..t], &mut results[..r], &mut out[..v])?;
-    Ok(true)
+fn call_view(rt: &impl Print, input: &[u8]) -> Result<(), Failure> {
+    let [table, results, out] = slices::<3>(input, 4).ok_or(Failure::Unreadable)?;
+    let mut holders = room();
+    let table = lend(input, table, &mut holders);
+    let mut numbers = room();
+    let results = lend(input, results, &mut numbers);
+    let mut shown = room();
+    let out = lend(input, out, &mut shown);
+    let verdict = view(
+        number(input, 1),
+        number(input, 2),
+        table,
+        word(input, 3),
+        results,
+        out,
+    );
+    print_verdict(rt, verdict)?;
+    Ok(print_numbers(rt, b"view", out)?)
 }
 
 // ---- Checking: n and m; bids, capacities, amounts, flows
 
-fn lend_check(
-    rt: &impl Print,
-    input: &[u8],
-    bids: &mut [i32],
-    capacities: &mut [i32],
-    amounts: &mut [i32],
-    flows: &mut [i32],
-) -> io::Result<()> {
-    let third = after_slice(input, after_slice(input, 3));
-    copy_pair(input, 3, bids, capacities);
-    copy_pair(input, third, amounts, flows);
-    let n = number(input, 1);
-    let m = number(input, 2);
-    let checked = check(n, m, bids, capacities, amounts, flows);
-    print_verdict(rt, checked.verdict)?;
-    print_number(rt, b"yes", checked.yes as usize)
-}
-
-pub fn call_check(rt: &impl Print, input: &[u8]) -> io::Result<bool> {
-    if !is_call(input, 3, 4) {
-        return Ok(false);
-    }
-    let second = after_slice(input, 3);
-    let third = after_slice(input, second);
-    let fourth = after_slice(input, third);
-    let mut bids = room_for_signed();
-    let mut capacities = room_for_signed();
-    let mut amounts = room_for_signed();
-    let mut flows = room_for_signed();
-    let b = slice_length(input, 3);
-    let c = slice_length(input, second);
-    let a = slice_length(input, third);
-    let f = slice_length(input, fourth);
-    lend_check(
-        rt,
-        input,
-        &mut bids[..b],
-        &mut capacities[..c],
-        &mut amounts[..a],
-        &mut flows[..f],
-    )?;
-    Ok(true)
+fn call_check(rt: &impl Print, input: &[u8]) -> Result<(), Failure> {
+    let [bids, capacities, amounts, flows] = slices::<4>(input, 3).ok_or(Failure::Unreadable)?;
+    let mut tables = Tables::new();
+    let book = tables.lend(input, bids, capacities);
+    let mut sent_amounts = room();
+    let mut sent_flows = room();
+    let sent = Sent {
+        amounts: lend(input, amounts, &mut sent_amounts),
+        flows: lend(input, flows, &mut sent_flows),
+    };
+    let checked = check(&book, &sent);
+    print_verdict(rt, checked.map(|_| ()))?;
+    Ok(print_number(rt, b"yes", usize::from(checked.unwrap_or(false)))?)
 }

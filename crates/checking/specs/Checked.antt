@@ -1,8 +1,6 @@
 -- What the code tests of numbers that are not refused is what yes says (`answer_exact`).
-use Rattle.std.specs.Prelude.{◌≡◌, Bool, true, false, ◌&&◌, List, map, length, ℤ}
-use Rattle.std.proofs.Math.Path.{sym}
-use Rattle.std.proofs.Common.{ap, ◌∙◌, true≢false, arith}
-use Rattle.std.proofs.Math.IntN.{nat_abs}
+use Rattle.std.specs.Prelude.{◌≡◌, Bool, true, false, ◌&&◌, List, map, length, ℤ, nat_abs}
+use Rattle.std.proofs.Common.{sym, ap, ◌∙◌, true≢false, arith}
 use Rattle.definitions.specs.Limits.{cell_count}
 use Rattle.definitions.specs.Arithmetic.{eq_z}
 use Rattle.definitions.specs.Book.{Book}
@@ -14,7 +12,7 @@ use Rattle.definitions.specs.Outcome.{result_of, plan_run, clear_welfare}
 use Rattle.laws.specs.AcceptedBook.{Sound, accepted_sound}
 use Rattle.laws.specs.Refusal.{first_left, first_right}
 use Rattle.laws.specs.SignedTests.{eq_z_true, eq_z_refl}
-use Rattle.laws.specs.Tests.{and_left, and_right}
+use Rattle.std.specs.Cmp.{first_so, second_so}
 use Rattle.theory.specs.FeasibleNumbers.{numbers_feasible, feasible_numbers_lem, same_amounts}
 use Rattle.theory.specs.Optimal.{optimal_by_welfare, welfare_of_optimal}
 use Rattle.theory.specs.SameClearing.{welfare_same}
@@ -61,9 +59,9 @@ module _ (B : Book) (amounts flows : List ℤ) (passed : check_refusal B (length
   optimal_passes : found_optimal B amounts flows ≡ true → Passes B amounts flows
   unfolding found_optimal sent_feasible
   optimal_passes e =
-      let tested = and_left (sent_feasible B amounts flows) _ e in
-      let found = numbers_feasible B amounts flows (and_right (is_none (sent_refusal B (length amounts) (length flows))) _ tested) in
-      let same : summed_welfare B.bids (map nat_abs amounts) ≡ clear_welfare plan B cell_count = eq_z_true _ _ (and_right (sent_feasible B amounts flows) _ e) in
+      let tested = first_so (sent_feasible B amounts flows) _ e in
+      let found = numbers_feasible B amounts flows (second_so (is_none (sent_refusal B (length amounts) (length flows))) _ tested) in
+      let same : summed_welfare B.bids (map nat_abs amounts) ≡ clear_welfare plan B cell_count = eq_z_true _ _ (second_so (sent_feasible B amounts flows) _ e) in
       record {
         no_refusal = passed;
         clearing = given;

@@ -1,11 +1,7 @@
 -- "Whatever our own unit clears must receive a yes": the amounts and flows opened of any accepted book that was cleared pass (`own_passes`).
-use Rattle.std.specs.Prelude.{ℕ, ◌+◌, ◌*◌, ◌<◌, ◌≡◌, refl, Bool, true, ◌&&◌, eqb, length, get_or, drop, ℤ, pos}
-use Rattle.std.proofs.Math.Path.{ap}
-use Rattle.std.proofs.Common.{◌∙◌, length-drop, length-take-le, eq-eqb}
-use mathlib.Core.List.{List}
-use native.Mathlib.Omega.{arith}
+use Rattle.std.specs.Prelude.{ℕ, ◌+◌, ◌*◌, ◌<◌, ◌≡◌, refl, Bool, true, ◌&&◌, eqb, length, get_or, drop, ℤ, pos, List}
+use Rattle.std.proofs.Common.{ap, ◌∙◌, length-drop, length-take-le, eq-eqb, arith, get_or-take, get_or-drop}
 use Rattle.std.proofs.Math.Arith.{digits_lt}
-use Rattle.std.proofs.Math.Seq.{get_or-take, get_or-drop}
 use Rattle.definitions.specs.Limits.{cell_count}
 use Rattle.definitions.specs.Arithmetic.{reading}
 use Rattle.definitions.specs.Book.{Book}

@@ -1,12 +1,6 @@
 -- What clearing knows after sealing: a refused book leaves everything as defined for a refusal; an accepted one is sealed, and after its plan's run the amounts
 -- are within limits.
-use Prim.Native.Nat.{ℕ}
-use mathlib.Core.Path.{◌≡◌, sym, ap, subst, ◌∙◌}
-use mathlib.Core.Bool.{false}
-use mathlib.Core.List.{List}
-use native.Mathlib.Omega.{arith}
-use lib.ListN.{length}
-use lib.IntN.{pos}
+use Rattle.std.proofs.Common.{ℕ, ◌≡◌, sym, ap, subst, ◌∙◌, false, List, arith, length, pos}
 use Rattle.definitions.specs.Book.{Book}
 use Rattle.definitions.specs.Sheet.{sealed_sheet}
 use Rattle.definitions.specs.Clearing.{welfare}
@@ -80,7 +74,6 @@ module _ (B : Book) (lent : List ℕ) where
           few_pools = sound.pools;
           table = sound.bid_table;
           cells = outcome.cells;
-          prices = sound.price_size;
           amounts = λ i l. omega (arith, outcome.best.feasible.amounts i l, sound.size_small i l);
         }
 

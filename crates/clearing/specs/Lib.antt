@@ -1,7 +1,6 @@
--- What clearing gives, welfare as one sum with its size, what the plan leaves, that it can be opened, and demand 3.
+-- What clearing gives, the amounts on its sheet, what the plan leaves, that it can be opened, and demand 3.
+pub mod Given
 pub mod Amounts
-pub mod IntegerSum
-pub mod Welfare
 pub mod PlanClears
 pub mod Opens
 pub mod Demand3

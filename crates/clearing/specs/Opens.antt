@@ -1,7 +1,6 @@
 -- The sheet that clearing leaves for an accepted book is a sheet, and opening does not refuse it (`plan_opens`).
-use Rattle.std.specs.Prelude.{◌≡◌, length}
-use Rattle.std.proofs.Math.Path.{refl}
-use borrow.Author.Tests.{eq-eqb}
+use Rattle.std.specs.Prelude.{◌≡◌, length, refl}
+use Rattle.std.proofs.Common.{eq-eqb}
 use Rattle.definitions.specs.Limits.{cell_count}
 use Rattle.definitions.specs.Book.{Book}
 use Rattle.definitions.specs.Sheet.{sealed_sheet, result_count}

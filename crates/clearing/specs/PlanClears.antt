@@ -1,8 +1,7 @@
 -- From an accepted book's sealed sheet the plan leaves document 01's outcome: the best clearing with permitted flows and prices (`plan_outcome`). So the
 -- sheet that one run leaves by computation is an outcome (`example_outcome`).
 use Rattle.std.specs.Prelude.{refl, List, ℕ}
-use Rattle.std.proofs.Math.Path.{sym}
-use Rattle.std.proofs.Common.{subst, ◌∙◌}
+use Rattle.std.proofs.Common.{sym, subst, ◌∙◌}
 use Rattle.definitions.specs.Book.{Book}
 use Rattle.definitions.specs.Sheet.{sealed_sheet}
 use Rattle.definitions.specs.Clearing.{Best, Permitted}

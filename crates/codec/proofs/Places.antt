@@ -7,13 +7,13 @@ use Rattle.definitions.specs.Bytes.{groups, short, bad, last_group, more_groups,
 pub no_groups : (g : ℕ) (first : Bool) (xs : List ℕ) → g ≡ 0 → bad ≡ read_groups g first xs
 unfolding read_groups
 no_groups zero first xs e = refl
-no_groups (suc g) first xs e = absurd (let x : ⊥ = omega arith in x)
+no_groups (suc g) first xs e = absurd (omega arith)
 
 pub no_bytes : (g : ℕ) (first : Bool) (xs : List ℕ) → (g ≡ 0 → ⊥) → length xs ≡ 0 → short ≡ read_groups g first xs
 unfolding read_groups
 no_bytes zero first xs e h = absurd (e refl)
 no_bytes (suc g) first [] e h = refl
-no_bytes (suc g) first (x ∷ xs) e h = absurd (let y : ⊥ = omega arith in y)
+no_bytes (suc g) first (x ∷ xs) e h = absurd (omega arith)
 
 pub a_byte : (g : ℕ) (first : Bool) (x : ℕ) (xs : List ℕ) → (g ≡ 0 → ⊥)
     → read_groups g first (x ∷ xs) ≡ cond (ltb x 128) (last_group first x) (more_groups x (read_groups (g - 1) false xs))
@@ -26,7 +26,7 @@ a_byte (suc g) first x xs e = rw sub-one refl
 pub groups_none : (g v : ℕ) → g ≡ 0 → groups g v ≡ []
 unfolding groups
 groups_none zero v e = refl
-groups_none (suc g) v e = absurd (let x : ⊥ = omega arith in x)
+groups_none (suc g) v e = absurd (omega arith)
 
 pub groups_last : (g v : ℕ) → (g ≡ 0 → ⊥) → v < 128 → groups g v ≡ v ∷ []
 unfolding groups

@@ -1,7 +1,7 @@
 -- What is written in the tail of some bytes, one run behind another, and an order's bytes by its numbers.
-use Rattle.std.proofs.Common.{ℕ, ◌-◌, ◌≤◌, ◌<◌, ◌≡◌, refl, sym, ap, ◌∙◌, cond, eqb, List, [], ◌∷◌, ◌++◌, append-nil, append_assoc, arith, length, drop, set, length-append, length-drop, length-take-le, drop_of_length-le, drop-drop, eq-eqb, ne_eqb}
+use Rattle.std.proofs.Common.{ℕ, ◌-◌, ◌≤◌, ◌≡◌, refl, sym, ap, ◌∙◌, cond, eqb, List, [], ◌∷◌, ◌++◌, append-nil, append_assoc, arith, length, drop, length-append, length-drop, drop_of_length-le, drop-drop, eq-eqb, ne_eqb}
 use Rattle.std.proofs.lemmas.Slice.{between_to_end}
-use borrow.Rule.Slice.PartMut.{put_mid, mid_of}
+use borrow.Rule.Slice.PartMut.{put_mid, mid_of, mid_len}
 use Rattle.definitions.specs.declared.Order.{Order}
 use Rattle.definitions.specs.declared.Order.TheVariants.{Constant, Sum, Difference, Product, Less, Equal}
 use Rattle.definitions.specs.declared.Parts.{Parts}
@@ -11,10 +11,6 @@ use Rattle.definitions.specs.Plan.{over}
 use Rattle.laws.specs.Write.{written, behind}
 
 -- ---- the tail of some bytes from an offset on
-
--- how many bytes it has
-pub tail_length : (at : ℕ) (out : List ℕ) → length (mid_of at (length out - at) out) ≡ length out - at
-tail_length at out = length-take-le (length out - at) (drop at out) (omega (arith, length-drop at out))
 
 -- what is written over its head
 pub tail_written : (out tail : List ℕ) (at : ℕ) (xs : List ℕ) → tail ≡ over xs (mid_of at (length out - at) out) → put_mid at (length out - at) out tail ≡ written out at xs
@@ -27,7 +23,7 @@ module _ (out out₁ : List ℕ) (size : ℕ) (xs ys : List ℕ) (e : size ≡ l
   -- the first run leaves room for the second
   pub room_behind : length (xs ++ ys) ≤ length out → length ys ≤ length (mid_of size (length out₁ - size) out₁)
   room_behind h =
-      omega (arith, tail_length size out₁, ap length q, length-append xs (drop (length xs) out), length-drop (length xs) out, length-append xs ys)
+      omega (arith, mid_len size (length out₁) out₁ (omega arith), ap length q, length-append xs (drop (length xs) out), length-drop (length xs) out, length-append xs ys)
 
   -- both are one
   pub both : (tail : List ℕ) → tail ≡ over ys (mid_of size (length out₁ - size) out₁) → put_mid size (length out₁ - size) out₁ tail ≡ over (xs ++ ys) out
@@ -36,11 +32,6 @@ module _ (out out₁ : List ℕ) (size : ℕ) (xs ys : List ℕ) (e : size ≡ l
       ∙ ap (λ (l : List ℕ). written l size ys) q
       ∙ behind xs (drop (length xs) out) size ys (sym e)
       ∙ rw (drop-drop, length-append) refl
-
--- one byte in front
-pub one_byte : (x : ℕ) (out : List ℕ) → 0 < length out → set out 0 x ≡ over (x ∷ []) out
-one_byte x [] h = absurd (let y : ⊥ = omega arith in y)
-one_byte x (y ∷ out) h = refl
 
 -- ---- an order by its numbers
 

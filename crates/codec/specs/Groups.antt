@@ -1,14 +1,6 @@
 -- A number's groups of seven bits, over the number of groups: what is written is read (`groups_read_back`), and only the shortest form is read (`only_shortest_groups`).
-use Rattle.std.specs.Prelude.{ℕ, zero, suc, ◌+◌, ◌*◌, ◌/◌, ◌%◌, ◌<◌, ◌≤◌, ◌≡◌, Bool, cond, drop, get_or}
-use Rattle.std.proofs.Math.Path.{refl, ap, ap₂}
-use Rattle.std.proofs.Common.{◌∙◌, true≢false}
-use Rattle.std.proofs.Math.Bool.{true, false}
-use mathlib.Core.List.{List, [], ◌∷◌, ◌++◌}
-use native.Mathlib.Omega.{arith}
-use Rattle.std.proofs.Math.Numerals.{add-one}
-use Rattle.std.proofs.Math.Dec.{ltb}
-use Rattle.std.proofs.Math.ListN.{length}
-use borrow.Author.Tests.{lt-ltb, le-ltb, ltb-true, ltb-false}
+use Rattle.std.specs.Prelude.{ℕ, zero, suc, ◌+◌, ◌*◌, ◌/◌, ◌%◌, ◌<◌, ◌≤◌, ◌≡◌, Bool, cond, drop, get_or, refl, true, false, List, [], ◌∷◌, ◌++◌, ltb, length}
+use Rattle.std.proofs.Common.{ap, ap₂, ◌∙◌, true≢false, arith, add-one, lt-ltb, le-ltb, ltb-true, ltb-false}
 use Rattle.definitions.specs.Bytes.{groups, Number, short, bad, number, last_group, more_groups, read_groups, group_size}
 use Rattle.laws.specs.Tests.{Lt?, less, more, lt?}
 
@@ -29,7 +21,7 @@ limit_positive (suc g) = omega (arith, limit_positive g)
 pub limit_grows : (g h : ℕ) → g ≤ h → groups_limit g ≤ groups_limit h
 unfolding groups_limit
 limit_grows zero h l = omega (arith, limit_positive h)
-limit_grows (suc g) zero l = absurd (let x : ⊥ = omega arith in x)
+limit_grows (suc g) zero l = absurd (omega arith)
 limit_grows (suc g) (suc h) l = omega (arith, limit_grows g h (omega arith))
 
 -- ---- how many bytes a number has, and that they are bytes
@@ -45,7 +37,7 @@ at_most (suc g) v = go (ltb v group_size) (at_most g (v / group_size))
 
 pub at_least_one : (g v : ℕ) → 0 < g → 1 ≤ length (groups g v)
 unfolding groups
-at_least_one zero v h = absurd (let x : ⊥ = omega arith in x)
+at_least_one zero v h = absurd (omega arith)
 at_least_one (suc g) v h = go (ltb v group_size)
   where
     go : (t : Bool) → 1 ≤ length (cond t (v ∷ []) ((v % group_size + group_size) ∷ groups g (v / group_size)))
@@ -103,7 +95,7 @@ later_read_written (suc g) v rest h k = one_group g false v rest (simp (lt-ltb 0
 
 pub groups_read_back : (g v : ℕ) (rest : List ℕ) → 0 < g → v < groups_limit g → read_groups g true (groups g v ++ rest) ≡ number v (length (groups g v))
 unfolding groups_limit
-groups_read_back zero v rest k h = absurd (let x : ⊥ = omega arith in x)
+groups_read_back zero v rest k h = absurd (omega arith)
 groups_read_back (suc g) v rest k h = one_group g true v rest refl (λ b. later_read_written g (v / group_size) rest (omega arith) (omega arith))
 
 -- a number too big for g groups leaves no last group
@@ -125,12 +117,6 @@ pub record ShortestGroups (g : ℕ) (first : Bool) (xs : List ℕ) (v n : ℕ) :
   pub inside : n ≤ length xs
   pub positive : first ≡ false → 0 < v
   pub form : Bytes xs → xs ≡ groups g v ++ drop n xs
-
-bad_number {ℓ} : {X : Type ℓ} {v n : ℕ} → bad ≡ number v n → X
-bad_number e = absurd (let z : ◌≡◌ {A = ℕ} 0 1 = cc in omega arith)
-
-short_number {ℓ} : {X : Type ℓ} {v n : ℕ} → short ≡ number v n → X
-short_number e = absurd (let z : ◌≡◌ {A = ℕ} 0 1 = cc in omega arith)
 
 last_form : (g x : ℕ) (xs : List ℕ) → x < group_size → x ∷ xs ≡ groups (suc g) x ++ drop 1 (x ∷ xs)
 unfolding groups
@@ -162,8 +148,8 @@ module _ (g : ℕ) (first : Bool) (x : ℕ) (xs : List ℕ) (v n : ℕ) where
 
   more_known : (r : Number) → group_size ≤ x → ((w k : ℕ) → r ≡ number w k → ShortestGroups g false xs w k) → more_groups x r ≡ number v n → ShortestGroups (suc g) first (x ∷ xs) v n
   unfolding groups_limit
-  more_known short h known e = short_number e
-  more_known bad h known e = bad_number e
+  more_known short h known e = cc
+  more_known bad h known e = cc
   more_known (number w k) h known e =
       let p : x % group_size + group_size * w ≡ v = cc in
       let q : k + 1 ≡ n = cc in
@@ -187,12 +173,12 @@ last_shortest g false x xs v n h e = go (ltb 0 x) refl e
   where
     go : (t : Bool) → ltb 0 x ≡ t → cond t (number x 1) bad ≡ number v n → ShortestGroups (suc g) false (x ∷ xs) v n
     go true q e = last_known g false x xs v n h (λ _. ltb-true 0 x q) e
-    go false q e = bad_number e
+    go false q e = cc
 
 pub only_shortest_groups : (g : ℕ) (first : Bool) (xs : List ℕ) (v n : ℕ) → read_groups g first xs ≡ number v n → ShortestGroups g first xs v n
 unfolding read_groups
-only_shortest_groups zero first xs v n e = bad_number e
-only_shortest_groups (suc g) first [] v n e = short_number e
+only_shortest_groups zero first xs v n e = cc
+only_shortest_groups (suc g) first [] v n e = cc
 only_shortest_groups (suc g) first (x ∷ xs) v n e = go (ltb x group_size) refl (only_shortest_groups g false xs) e
   where
     go : (t : Bool) → ltb x group_size ≡ t → ((w k : ℕ) → read_groups g false xs ≡ number w k → ShortestGroups g false xs w k)

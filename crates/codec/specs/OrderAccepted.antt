@@ -1,11 +1,6 @@
 -- An order's bytes are accepted only if it is one of the machine's (`accepted_written`).
-use Prim.Native.Nat.{ℕ, ◌+◌, ◌<◌, ◌≤◌}
-use Rattle.std.specs.Prelude.{◌≡◌, Bool, drop}
-use Rattle.std.proofs.Math.Path.{sym}
-use Rattle.std.proofs.Common.{ap, ◌∙◌, le-ltb, ne_eqb}
-use mathlib.Core.List.{List, ◌++◌, append_assoc}
-use native.Mathlib.Omega.{arith}
-use Rattle.std.proofs.Math.ListN.{length}
+use Rattle.std.specs.Prelude.{ℕ, ◌+◌, ◌<◌, ◌≤◌, ◌≡◌, Bool, drop, List, ◌++◌, length}
+use Rattle.std.proofs.Common.{sym, ap, ◌∙◌, le-ltb, ne_eqb, append_assoc, arith}
 use Rattle.definitions.specs.declared.Order.{Order}
 use Rattle.definitions.specs.declared.Order.TheVariants.{Constant, Sum, Difference, Product, Less, Equal}
 use Rattle.definitions.specs.Limits.{cell_count, modulus}
@@ -43,12 +38,12 @@ module _ (s : List ℕ) where
       let n₁ = kind_there s at 0 (number_bytes d ++ (number_bytes k ++ rest)) (omega arith) (simp append_assoc at e) in
       let q₁ : target_at s 0 (at + length (number_bytes 0)) ≡ found o next = sym (ap (λ (r : Read ℕ). and_then r (λ kind n. target_at s kind n)) n₁.read) ∙ q in
       let t₁ = through (cell_at s (at + length (number_bytes 0))) (λ x n. rest_at s 0 x n) o next q₁ in
-      let hd = cell_limited (at + length (number_bytes 0)) d (number_bytes k ++ rest) n₁.then t₁.was in
+      let hd = cell_limited (at + length (number_bytes 0)) d (number_bytes k ++ rest) {w = t₁.value} {next = t₁.mid} n₁.then t₁.was in
       let n₂ = cell_there s (at + length (number_bytes 0)) d (number_bytes k ++ rest) hd n₁.then in
       let at₂ : ℕ = at + length (number_bytes 0) + length (number_bytes d) in
       let q₂ : and_then (constant_at s at₂) (λ x n. found (Constant d x) n) ≡ found o next = sym (ap (λ (r : Read ℕ). and_then r (λ x n. rest_at s 0 x n)) n₂.read) ∙ q₁ in
       let t₂ = through (constant_at s at₂) (λ x n. found (Constant d x) n) o next q₂ in
-      (hd, constant_limited at₂ k rest n₂.then t₂.was)
+      (hd, constant_limited at₂ k rest {w = t₂.value} {next = t₂.mid} n₂.then t₂.was)
 
   cells_accepted : (at kind d a b : ℕ) (rest : List ℕ) {o : Order} {next : ℕ} → 0 < kind → kind < kind_count → drop at s ≡ cells_bytes kind d a b ++ rest → order_at s at ≡ found o next → ThreeCells d a b
   unfolding order_at target_at rest_at last_at
@@ -57,19 +52,19 @@ module _ (s : List ℕ) where
       let at₁ : ℕ = at + length (number_bytes kind) in
       let q₁ : target_at s kind at₁ ≡ found o next = sym (ap (λ (r : Read ℕ). and_then r (λ x n. target_at s x n)) n₁.read) ∙ q in
       let t₁ = through (cell_at s at₁) (λ x n. rest_at s kind x n) o next q₁ in
-      let hd = cell_limited at₁ d (number_bytes a ++ (number_bytes b ++ rest)) n₁.then t₁.was in
+      let hd = cell_limited at₁ d (number_bytes a ++ (number_bytes b ++ rest)) {w = t₁.value} {next = t₁.mid} n₁.then t₁.was in
       let n₂ = cell_there s at₁ d (number_bytes a ++ (number_bytes b ++ rest)) hd n₁.then in
       let at₂ : ℕ = at₁ + length (number_bytes d) in
       let z : kind ≡ 0 → ⊥ = λ p. let x : ⊥ = omega arith in x in
       let q₂ : and_then (cell_at s at₂) (λ x n. last_at s kind d x n) ≡ found o next =
       sym (ap (λ (r : Read ℕ). and_then r (λ x n. rest_at s kind x n)) n₂.read ∙ simp (ne_eqb kind 0 z)) ∙ q₁ in
       let t₂ = through (cell_at s at₂) (λ x n. last_at s kind d x n) o next q₂ in
-      let ha = cell_limited at₂ a (number_bytes b ++ rest) n₂.then t₂.was in
+      let ha = cell_limited at₂ a (number_bytes b ++ rest) {w = t₂.value} {next = t₂.mid} n₂.then t₂.was in
       let n₃ = cell_there s at₂ a (number_bytes b ++ rest) ha n₂.then in
       let at₃ : ℕ = at₂ + length (number_bytes a) in
       let q₃ : last_at s kind d a at₃ ≡ found o next = sym (ap (λ (r : Read ℕ). and_then r (λ x n. last_at s kind d x n)) n₃.read) ∙ q₂ in
       let t₃ = through (cell_at s at₃) (λ x n. of_kind kind n (cells_orders d a x)) o next q₃ in
-      (hd, ha, cell_limited at₃ b rest n₃.then t₃.was)
+      (hd, ha, cell_limited at₃ b rest {w = t₃.value} {next = t₃.mid} n₃.then t₃.was)
 
   pub accepted_written : (at : ℕ) (o : Order) (rest : List ℕ) {read : Order} {next : ℕ} → drop at s ≡ order_bytes o ++ rest → order_at s at ≡ found read next → WellFormed o
   unfolding order_bytes

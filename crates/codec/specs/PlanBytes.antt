@@ -1,12 +1,7 @@
 -- A list of orders and its bytes: orders are read back from their bytes (orders_read_back), bytes that are accepted are those of the orders read (accepted_bytes_shortest),
 -- and orders whose bytes are accepted are the machine's (accepted_only).
-use Prim.Native.Nat.{ℕ, zero, suc, ◌+◌, ◌-◌, ◌<◌, ◌≤◌}
-use Rattle.std.specs.Prelude.{◌≡◌, Bool, cond}
-use Rattle.std.proofs.Math.Path.{refl, sym, ap}
-use Rattle.std.proofs.Common.{◌∙◌, drop-drop, lt-ltb, le-ltb}
-use mathlib.Core.List.{List, [], ◌∷◌, ◌++◌}
-use native.Mathlib.Omega.{arith}
-use Rattle.std.proofs.Math.ListN.{length, drop, drop_of_length-le, length-append, length-drop}
+use Rattle.std.specs.Prelude.{ltb, true, false, ℕ, zero, suc, ◌+◌, ◌-◌, ◌<◌, ◌≤◌, ◌≡◌, Bool, cond, refl, List, [], ◌∷◌, ◌++◌, length, drop}
+use Rattle.std.proofs.Common.{sym, ap, ◌∙◌, drop-drop, lt-ltb, le-ltb, arith, drop_of_length-le, length-append, length-drop}
 use Rattle.std.proofs.Math.Seq.{drop-append_seam}
 use Rattle.definitions.specs.declared.Order.{Order}
 use Rattle.definitions.specs.Answers.{none, refuse}
@@ -134,6 +129,21 @@ unfolding parse
 accepted_only os q =
     let w = from_written (orders_bytes os) (length (orders_bytes os)) 0 os (omega arith) refl q in
     (w, ap (λ (p : Parsed). p.orders) (orders_read_back os w))
+
+-- each order has a byte at least
+from_at_most : (s : List ℕ) (k at : ℕ) → length (parse_from s k at).orders ≤ k
+unfolding parse_from
+from_at_most s zero at = omega arith
+from_at_most s (suc k) at = go (ltb at (length s)) (order_at s at) (from_at_most s k)
+  where
+    go : (t : Bool) (r : Read Order) → ((next : ℕ) → length (parse_from s k next).orders ≤ k) → length (cond t (continue at r (λ next. parse_from s k next)) (no_orders none)).orders ≤ suc k
+    go true (fault number) later = omega arith
+    go true (found o next) later = omega (arith, later next)
+    go false r later = omega arith
+
+pub orders_at_most : (s : List ℕ) → length (parse s).orders ≤ length s
+unfolding parse
+orders_at_most s = from_at_most s (length s) 0
 
 -- ---- reading on from an offset, turn by turn
 

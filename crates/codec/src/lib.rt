@@ -26,6 +26,7 @@ enum Fault {
 }
 
 // At most g groups at the head of some bytes: their value, and how many they are. The last group is 0 only if it is the first too.
+// `first` stays a flag, as in the definition: two functions would share all but one test.
 fn read_groups(bytes: &[u8], g: usize, first: bool) -> Result<(usize, usize), Fault>
     requires { g ≤ most_groups }
     ensures { groups_answer result ≡ read_groups g first bytes.now }
@@ -48,7 +49,7 @@ fn read_groups(bytes: &[u8], g: usize, first: bool) -> Result<(usize, usize), Fa
 }
 
 // The bytes that an order is read from, and the offset of its first, which is the place of a refusal.
-// What is read of it comes with the offset after it.
+// What is read comes with the offset after it: a cursor that moves would have to say in each contract what it keeps.
 #[derive(Clone, Copy)]
 struct Source<'a> {
     bytes: &'a [u8],
@@ -102,7 +103,7 @@ impl Source<'_> {
     }
 }
 
-// The order of a kind with two cells; the kinds are document 01's numbers.
+// The order of a kind with two cells. The kinds are document 01's numbers: an enum of kinds would list these and the orders once more.
 fn cells_order(kind: usize, d: usize, a: usize, b: usize) -> Option<Order>
     ensures { (next : ℕ) → kind_answer next result ≡ of_kind kind next (cells_orders d a b) }
 {
@@ -135,7 +136,6 @@ pub fn read_order(bytes: &[u8], at: usize) -> Result<(Order, usize), Reason>
 
 // How many of at most g groups a number has.
 fn group_count(v: usize, g: usize) -> usize
-    requires { g ≤ most_groups }
     ensures { result ≡ length (groups g v) }
 {
     if g == 0 {
@@ -154,7 +154,7 @@ fn number_size(v: usize) -> usize
     group_count(v, MOST_GROUPS)
 }
 
-// How many bytes an order has.
+// How many bytes an order has. Here and in `put_order` one test tells the constant from two cells: a match would name all six cases.
 fn order_size(order: Order) -> usize
     ensures { result ≡ length (order_bytes order) }
 {
@@ -167,6 +167,7 @@ fn order_size(order: Order) -> usize
 }
 
 // Writes a number's groups, of which there are at most g, at the head of a slice, and gives how many they are.
+// It shares no code with the digits of `listing` and `host`: order, count and marks of the digits differ.
 fn put_groups(out: &mut [u8], v: usize, g: usize) -> usize
     requires { length (groups g v) ≤ length out.old }
     ensures size { result ≡ length (groups g v) }

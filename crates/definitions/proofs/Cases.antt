@@ -1,6 +1,5 @@
 -- What is shown at each index below a small count holds at every one: for bids, pools and lines of small books.
-use Prim.Native.Nat.{ℕ, zero, suc, ◌<◌}
-use native.Mathlib.Omega.{arith}
+use Rattle.std.proofs.Common.{ℕ, zero, suc, ◌<◌, arith}
 
 pub below_one : (A : ℕ → Type 0) → A 0 → (i : ℕ) → i < 1 → A i
 below_one A a zero l = a

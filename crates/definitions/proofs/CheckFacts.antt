@@ -1,12 +1,5 @@
 -- The test of a feasible clearing and the refusals on small books; which clearings are optimal, which numbers pass, and what exactly means.
-use Prim.Native.Nat.{ℕ, zero, suc, ◌+◌, ◌*◌, ◌≤◌}
-use mathlib.Core.Path.{◌≡◌, refl, sym, ap}
-use mathlib.Core.Bool.{Bool, true, false, true≢false}
-use mathlib.Core.List.{List, [], ◌∷◌}
-use native.Mathlib.Omega.{arith}
-use lib.ListN.{get_or}
-use lib.IntN.{ℤ, pos, negsuc, neg_ℤ, nat_abs}
-use lib.Signed.{◌≤ℤ◌}
+use Rattle.std.proofs.Common.{ℕ, zero, suc, ◌+◌, ◌*◌, ◌≤◌, ◌≡◌, refl, sym, ap, Bool, true, false, true≢false, List, [], ◌∷◌, arith, get_or, ℤ, pos, negsuc, neg_ℤ, nat_abs, ◌≤ℤ◌}
 use Rattle.definitions.proofs.Cases.{below_two, lines_of_two}
 use Rattle.definitions.specs.Arithmetic.{sum_to, sum_z, all_to}
 use Rattle.definitions.specs.Book.{Book, book}

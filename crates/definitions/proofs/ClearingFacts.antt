@@ -1,11 +1,5 @@
 -- Merit order, used amounts, dictionary order, feasibility, welfare and prices on small books, by computation.
-use Prim.Native.Nat.{ℕ, zero, suc, ◌+◌, ◌*◌}
-use mathlib.Core.Path.{◌≡◌, refl}
-use mathlib.Core.Bool.{true, false}
-use mathlib.Core.List.{List, [], ◌∷◌}
-use native.Mathlib.Omega.{arith}
-use lib.ListN.{get_or}
-use lib.IntN.{pos, neg_ℤ}
+use Rattle.std.proofs.Common.{ℕ, zero, suc, ◌+◌, ◌*◌, ◌≡◌, refl, true, false, List, [], ◌∷◌, arith, get_or, pos, neg_ℤ}
 use Rattle.definitions.proofs.Cases.{below_one, below_two, below_three, lines_of_two}
 use Rattle.definitions.specs.Arithmetic.{sum_to, sum_z}
 use Rattle.definitions.specs.Book.{Book, book}

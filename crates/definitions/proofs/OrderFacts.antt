@@ -1,8 +1,5 @@
 -- The machine's orders and their bytes on single cases, by computation.
-use mathlib.Core.Path.{◌≡◌, refl}
-use Prim.Native.Nat.{ℕ}
-use mathlib.Core.List.{List, [], ◌∷◌}
-use lib.ListN.{length, replicate}
+use Rattle.std.proofs.Common.{◌≡◌, refl, ℕ, List, [], ◌∷◌, length, replicate}
 use Rattle.definitions.specs.declared.Order.TheVariants.{Constant, Sum, Difference, Product, Less, Equal}
 use Rattle.definitions.specs.Limits.{cell_count}
 use Rattle.definitions.specs.Machine.{times, less_than, step_of, run_of}

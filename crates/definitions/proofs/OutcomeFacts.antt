@@ -1,10 +1,5 @@
 -- What an outcome is not: the shams that document 01 names ('Which sham does it catch?') leave none. And clearing on small books and plans.
-use Prim.Native.Nat.{ℕ, zero, suc, ◌+◌, ◌≤◌, ◌<◌}
-use mathlib.Core.Path.{◌≡◌, refl}
-use mathlib.Core.List.{List, [], ◌∷◌}
-use native.Mathlib.Omega.{arith}
-use lib.ListN.{get_or, replicate}
-use lib.IntN.{pos, neg_ℤ}
+use Rattle.std.proofs.Common.{ℕ, zero, suc, ◌+◌, ◌≤◌, ◌<◌, ◌≡◌, refl, List, [], ◌∷◌, arith, get_or, replicate, pos, neg_ℤ}
 use Rattle.definitions.proofs.Cases.{below_one, below_two}
 use Rattle.definitions.specs.declared.Order.TheVariants.{Constant, Sum}
 use Rattle.definitions.specs.Arithmetic.{sum_to, sum_z, join_to}

@@ -1,8 +1,5 @@
 -- Asking, the writer and the C forms on a plan of three orders, by computation.
-use Prim.Native.Nat.{ℕ}
-use mathlib.Core.Path.{◌≡◌, refl}
-use mathlib.Core.List.{List, [], ◌∷◌}
-use lib.ListN.{replicate}
+use Rattle.std.proofs.Common.{ℕ, ◌≡◌, refl, List, [], ◌∷◌, replicate}
 use Rattle.definitions.specs.declared.Order.{Order}
 use Rattle.definitions.specs.declared.Order.TheVariants.{Constant, Sum}
 use Rattle.definitions.specs.Answers.{refuse}

@@ -1,7 +1,5 @@
 -- Settle's input and listing on single texts, by computation.
-use mathlib.Core.Path.{◌≡◌, refl}
-use mathlib.Core.List.{[], ◌∷◌}
-use lib.IntN.{pos, neg_ℤ}
+use Rattle.std.proofs.Common.{◌≡◌, refl, [], ◌∷◌, pos, neg_ℤ}
 use Rattle.definitions.specs.Arithmetic.{sum_z, join_to}
 use Rattle.definitions.specs.Book.{book}
 use Rattle.definitions.specs.Examples.{book_two, text_two, printed_two}

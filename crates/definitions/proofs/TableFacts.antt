@@ -1,9 +1,5 @@
 -- The edges of the limits, the order of refusals and their places, and residues, by computation.
-use Prim.Native.Nat.{ℕ}
-use mathlib.Core.Path.{◌≡◌, refl}
-use mathlib.Core.List.{List, [], ◌∷◌}
-use lib.ListN.{length, replicate}
-use lib.IntN.{ℤ, pos, neg_ℤ}
+use Rattle.std.proofs.Common.{ℕ, ◌≡◌, refl, List, [], ◌∷◌, length, replicate, ℤ, pos, neg_ℤ}
 use Rattle.definitions.specs.Limits.{cell_count}
 use Rattle.definitions.specs.Arithmetic.{reading, residue}
 use Rattle.definitions.specs.Book.{book}

@@ -1,11 +1,5 @@
 -- Views on small tables, what is refused of them, and what agreement and one of each holder are and are not.
-use Prim.Native.Nat.{ℕ, ◌+◌}
-use mathlib.Core.Path.{◌≡◌, refl, sym, ap}
-use mathlib.Core.Bool.{true≢false}
-use mathlib.Core.List.{List, [], ◌∷◌}
-use native.Mathlib.Omega.{arith}
-use lib.ListN.{get_or, replicate}
-use lib.IntN.{ℤ, pos, neg_ℤ, nat_abs}
+use Rattle.std.proofs.Common.{ℕ, ◌+◌, ◌≡◌, refl, sym, ap, true≢false, List, [], ◌∷◌, arith, get_or, replicate, ℤ, pos, neg_ℤ, nat_abs}
 use Rattle.definitions.proofs.Cases.{below_one, below_two}
 use Rattle.definitions.specs.Answers.{none, refuse}
 use Rattle.definitions.specs.Calls.{result_at, flow_place, pool_place}

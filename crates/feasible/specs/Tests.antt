@@ -1,11 +1,6 @@
 -- The tests of feasibility as the code makes them: of numbers that are not refused they are together `feasible_numbers` (`tests_feasible`).
-use Prim.Native.Nat.{ℕ, ◌+◌, ◌*◌}
-use Rattle.std.specs.Prelude.{◌≡◌, Bool, List, length, get_or, ℤ, pos, nat_abs}
-use Rattle.std.proofs.Math.Path.{ap, ap₂}
-use Rattle.std.proofs.Common.{◌∙◌, eqb-true}
-use Rattle.std.proofs.Math.Bool.{◌&&◌}
-use native.Mathlib.Omega.{arith}
-use Rattle.std.proofs.Math.Dec.{eqb}
+use Rattle.std.specs.Prelude.{ℕ, ◌+◌, ◌*◌, ◌≡◌, Bool, List, length, get_or, ℤ, pos, nat_abs, ◌&&◌, eqb}
+use Rattle.std.proofs.Common.{ap, ap₂, ◌∙◌, eqb-true, arith}
 use Rattle.definitions.specs.Limits.{bid_numbers, quantity_place}
 use Rattle.definitions.specs.Arithmetic.{all_to, within}
 use Rattle.definitions.specs.Answers.{none}
@@ -16,7 +11,7 @@ use Rattle.definitions.specs.Clearing.{Clearing}
 use Rattle.laws.specs.All.{all_to_ext, all_to_rows}
 use Rattle.laws.specs.Refusal.{test_passed, first_left, first_right}
 use Rattle.laws.specs.Sizes.{Counts, counted, tables_measured}
-use Rattle.laws.specs.Tests.{and_left, and_right}
+use Rattle.std.specs.Cmp.{first_so, second_so}
 use Rattle.sums.specs.BidsOnly.{bids_only, sold_of, bought_of, inflow_of, outflow_of}
 use Rattle.sums.specs.Pools.{TablesFit}
 
@@ -32,6 +27,12 @@ within_sizes numbers limits step first = all_to (length numbers) (within_size nu
 abbrev pub pool_balanced : (m : ℕ) (bids amounts flows : List ℤ) → ℕ → Bool
 pool_balanced m bids amounts flows = balanced_at (bids_only (length amounts) m bids) (clearing_of m amounts flows)
 
+-- the three tests in turn: the amounts, the flows, the pools
+abbrev pub tested : Book → (amounts flows : List ℤ) → Bool
+tested B amounts flows =
+    within_sizes amounts B.bids bid_numbers quantity_place
+    && (within_sizes flows B.capacities 1 0 && all_to B.m (pool_balanced B.m B.bids amounts flows))
+
 -- what is known of a book and of how many numbers are sent for it, if these are not refused
 pub record SentSizes (B : Book) (amounts flows : ℕ) : Type 0 where
   pub counts : Counts B.n B.m
@@ -45,14 +46,14 @@ unfolding sent_refusal
 sent_sizes B amounts flows e =
     let sent = eqb amounts B.n && eqb flows (B.m * B.m) in
     let right = test_passed (tables_right B && sent) 3 0 (first_right (counts_refusal B.n B.m) _ e) in
-    let tables = tables_measured B.n B.m (length B.bids) (length B.capacities) (and_left (tables_right B) sent right) in
-    let numbers = and_right (tables_right B) sent right in
+    let tables = tables_measured B.n B.m (length B.bids) (length B.capacities) (first_so (tables_right B) sent right) in
+    let numbers = second_so (tables_right B) sent right in
     record {
       counts = counted B.n B.m (first_left (counts_refusal B.n B.m) _ e);
       bid_table = tables.0;
       capacity_table = tables.1;
-      amount_count = eqb-true _ _ (and_left (eqb amounts B.n) _ numbers);
-      flow_count = eqb-true _ _ (and_right (eqb amounts B.n) _ numbers);
+      amount_count = eqb-true _ _ (first_so (eqb amounts B.n) _ numbers);
+      flow_count = eqb-true _ _ (second_so (eqb amounts B.n) _ numbers);
     }
 
 module _ (B : Book) (amounts flows : List ℤ) (sizes : SentSizes B (length amounts) (length flows)) where
@@ -91,9 +92,6 @@ module _ (B : Book) (amounts flows : List ℤ) (sizes : SentSizes B (length amou
       (ap₂ ◌+◌ (sold_of B (length amounts) count c.accepted p) (inflow_of B (length amounts) count c.flow p))
       (ap₂ ◌+◌ (bought_of B (length amounts) count c.accepted p) (outflow_of B (length amounts) count c.flow p)))
 
-  pub tests_feasible :
-      (within_sizes amounts B.bids bid_numbers quantity_place
-      && (within_sizes flows B.capacities 1 0 && all_to B.m (pool_balanced B.m B.bids amounts flows)))
-      ≡ feasible_numbers B amounts flows
+  pub tests_feasible : tested B amounts flows ≡ feasible_numbers B amounts flows
   unfolding feasible_numbers
   tests_feasible = ap₂ ◌&&◌ by_bids_lem (ap₂ ◌&&◌ by_lines_lem by_pools_lem)

@@ -1,7 +1,6 @@
 -- Bytes with the lowest first hold the number that they were made of (`read_back`), so the host can read the total from its 8 bytes
 -- (`total_read_back`), and the counts and the next position from their 24 (`counts_read_back`), whatever slices were lent.
-use Rattle.std.specs.Prelude.{ℕ, zero, suc, ◌+◌, ◌*◌, ◌/◌, ◌≤◌, ◌<◌, ◌≡◌, refl, List, [], ◌∷◌, ◌++◌, length, take, drop}
-use Rattle.std.proofs.Common.{sym, ap, ◌∙◌, arith, le_refl, add-le-add, mul-le-mul, mul-le-mul_left, take_at, drop_at, take_all, drop-drop}
+use Rattle.std.proofs.Common.{sym, ap, ◌∙◌, arith, le_refl, add-le-add, mul-le-mul, mul-le-mul_left, take_at, drop_at, take_all, drop-drop, ℕ, zero, suc, ◌+◌, ◌*◌, ◌/◌, ◌≤◌, ◌<◌, ◌≡◌, refl, List, ◌++◌, length, take, drop}
 use Rattle.std.proofs.Math.Nat.{pow-le-pow_left}
 use Rattle.definitions.specs.Limits.{bid_limit, pool_limit}
 use Rattle.definitions.specs.Answers.{none}

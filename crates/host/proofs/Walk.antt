@@ -1,17 +1,11 @@
 -- The C host's walk, as README's loop makes it: it calls `plan_bytes` from position 0 on, reads the three numbers from the 24 bytes, and stops at the
 -- first call that gives no orders. It is the writer's walk (`same_walk`), so it stops (`host_stops`), and when it has (`host_walk`), or has come
 -- to the total (`host_walk_to_total`), it has sent exactly the plan's bytes, which the runner accepts on every sheet and runs as the plan.
-use Rattle.std.specs.Prelude.{ℕ, ◌≤◌, ◌<◌, ◌≡◌, true, length}
-use Rattle.std.proofs.Math.Path.{refl, ap}
-use Rattle.std.proofs.Common.{sym, ap₂, ◌∙◌, subst, arith}
-use Rattle.std.proofs.Math.Bool.{cond}
-use mathlib.Core.List.{List, [], ◌∷◌, map}
+use Rattle.std.proofs.Common.{refl, ap, sym, ap₂, ◌∙◌, subst, arith, cond, List, [], ◌∷◌, ℕ, ◌≤◌, ◌<◌, ◌≡◌, true, length}
 use Rattle.std.proofs.lemmas.List.{length-map}
 use Rattle.definitions.specs.Answers.{none, number_of}
-use Rattle.definitions.specs.Bytes.{orders_bytes}
 use Rattle.definitions.specs.Calls.{counts_refusal}
-use Rattle.definitions.specs.Machine.{IsSheet}
-use Rattle.definitions.specs.Plan.{Plan, Written, write_refusal, write_counts, write_slice, total_slice, bytes_refusal, bytes_slice, counts_slice, longest_order, number_size, counts_size}
+use Rattle.definitions.specs.Plan.{Written, write_refusal, write_counts, write_slice, total_slice, bytes_refusal, bytes_slice, counts_slice, number_size}
 use Rattle.plan.specs.Plan.{plan}
 use Rattle.walk.specs.Walk.{Reply, goes_on, Walk, sent_before, stop_at, after_call, walk, reply_of, writer_reply, Roomy}
 use Rattle.orders.specs.Calls.{counts_accepted, slice_accepted}

@@ -1,9 +1,5 @@
 -- What the host reads from 24 bytes, and its walk through a plan of three orders, by computation.
-use Prim.Native.Nat.{ℕ}
-use mathlib.Core.Path.{◌≡◌, refl}
-use mathlib.Core.Bool.{true, false}
-use mathlib.Core.List.{[], ◌∷◌, ◌++◌}
-use lib.ListN.{replicate}
+use Rattle.std.proofs.Common.{ℕ, ◌≡◌, refl, true, false, [], ◌∷◌, ◌++◌, replicate}
 use Rattle.definitions.specs.Bytes.{groups, number_bytes, order_bytes, orders_bytes}
 use Rattle.definitions.specs.Plan.{fitting, orders_written, bytes_written, written_counts, lowest_first, bytes_refusal, bytes_slice, counts_slice}
 use Rattle.walk.specs.Walk.{walk}

@@ -1,7 +1,6 @@
 -- When a call is not refused (`total_passes`, `bytes_pass`), what is then known of it, and what each call leaves.
 use Rattle.std.specs.Prelude.{ℕ, ◌≤◌, ◌≡◌, refl, false, List, eqb, length}
-use Rattle.std.proofs.Math.Path.{ap}
-use Rattle.std.proofs.Common.{◌∙◌, eqb-true, eq-eqb, le-ltb}
+use Rattle.std.proofs.Common.{ap, ◌∙◌, eqb-true, eq-eqb, le-ltb}
 use Rattle.definitions.specs.Answers.{Refusal, none, refuse, first, unless, is_none}
 use Rattle.definitions.specs.Calls.{counts_refusal, length_refusal}
 use Rattle.definitions.specs.Plan.{Plan, position_refusal, room_refusal, ask_refusal, write_refusal, over, bytes_written, written_counts, lowest_first, count_bytes, total_refusal, total_slice, bytes_refusal, bytes_slice, counts_slice, longest_order, number_size, counts_size}

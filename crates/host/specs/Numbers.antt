@@ -1,16 +1,7 @@
 -- The numbers that bytes hold, the lowest first: the total from 8 bytes, and the counts and the next position from 24.
-use Rattle.std.specs.Prelude.{ℕ, zero, suc, ◌+◌, ◌*◌, ◌/◌, ◌≤◌, ◌<◌, ◌≡◌, refl, List, [], ◌∷◌, ◌++◌, length, take, drop}
-use Rattle.std.proofs.Common.{sym, ap, ◌∙◌, arith, le_refl, add-le-add, mul-le-mul, mul-le-mul_left, take_at, drop_at, take_all, drop-drop}
-use Rattle.std.proofs.Math.Nat.{pow-le-pow_left}
-use Rattle.definitions.specs.Limits.{bid_limit, pool_limit}
-use Rattle.definitions.specs.Answers.{none}
-use Rattle.definitions.specs.Calls.{counts_refusal}
-use Rattle.definitions.specs.Outcome.{order_limit}
-use Rattle.definitions.specs.Plan.{lowest_first, Written, written_counts, count_bytes, total_refusal, total_slice, bytes_refusal, counts_slice, longest_order, number_size}
-use Rattle.laws.specs.Sizes.{counted}
-use Rattle.plan.specs.Plan.{plan}
-use Rattle.orders.specs.Calls.{write_within}
-use Rattle.host.specs.Calls.{total_counts, total_given, bytes_writing, counts_given}
+use Rattle.std.specs.Prelude.{ℕ, zero, suc, ◌+◌, ◌*◌, ◌/◌, ◌≡◌, refl, List, [], ◌∷◌, length, take, drop}
+use Rattle.std.proofs.Common.{ap}
+use Rattle.definitions.specs.Plan.{lowest_first, Written, number_size}
 
 -- the number that bytes hold, the lowest first
 unfoldable pub held : List ℕ → ℕ

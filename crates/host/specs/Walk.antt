@@ -1,21 +1,13 @@
 -- The C host's walk, as README's loop makes it: it calls `plan_bytes` from position 0 on, reads the three numbers from the 24 bytes, and stops at the
 -- first call that gives no orders; and what it has done when it has come to the end.
-use Rattle.std.specs.Prelude.{ℕ, ◌≤◌, ◌<◌, ◌≡◌, true, length}
-use Rattle.std.proofs.Math.Path.{refl, ap}
-use Rattle.std.proofs.Common.{sym, ap₂, ◌∙◌, subst, arith}
-use Rattle.std.proofs.Math.Bool.{cond}
-use mathlib.Core.List.{List, [], ◌∷◌, map}
-use Rattle.std.proofs.lemmas.List.{length-map}
-use Rattle.definitions.specs.Answers.{none, number_of}
+use Rattle.std.specs.Prelude.{ℕ, ◌≤◌, ◌≡◌, length, List, [], ◌∷◌, map}
+use Rattle.definitions.specs.Answers.{number_of}
 use Rattle.definitions.specs.Bytes.{orders_bytes}
-use Rattle.definitions.specs.Calls.{counts_refusal}
 use Rattle.definitions.specs.Machine.{IsSheet}
-use Rattle.definitions.specs.Plan.{Plan, Written, write_refusal, write_counts, write_slice, total_slice, bytes_refusal, bytes_slice, counts_slice, longest_order, number_size, counts_size}
+use Rattle.definitions.specs.Plan.{Plan, total_slice, bytes_refusal, bytes_slice, counts_slice, longest_order, number_size, counts_size}
 use Rattle.plan.specs.Plan.{plan}
-use Rattle.walk.specs.Walk.{Reply, goes_on, Walk, sent_before, stop_at, after_call, walk, reply_of, writer_reply, Roomy}
-use Rattle.orders.specs.Calls.{counts_accepted, slice_accepted}
+use Rattle.walk.specs.Walk.{Reply, Walk, reply_of}
 use Rattle.walk.specs.Sequence.{PlanRun}
-use Rattle.host.specs.Calls.{total_passes, bytes_pass, bytes_given}
 use Rattle.host.specs.Numbers.{held, counts_held}
 
 -- the two slices of a call: the one for the plan's bytes, and the one for the three numbers

@@ -2,56 +2,78 @@
 // Each returns the refusal's number, 0 for none, and gives its numbers in a further slice, 8 bytes each, lowest byte first.
 #![tactic(auto)]
 
-ghost use Rattle.std.specs.Prelude.{◌≡◌, ◌+◌, ◌≤◌, eqb, length};
-ghost use Rattle.std.proofs.lemmas.List.Edits.{sets};
-ghost use Rattle.definitions.specs.Answers.{first, number_of, refusal_of};
-ghost use Rattle.definitions.specs.Calls.{counts_refusal, length_refusal};
-ghost use Rattle.definitions.specs.Plan.{lowest_first, count_bytes, total_refusal, total_slice, bytes_refusal, bytes_slice, counts_slice};
+ghost use Rattle.std.specs.Prelude.{◌≡◌, length};
+ghost use Rattle.definitions.specs.Answers.{number_of, refusal_of};
+ghost use Rattle.definitions.specs.Plan.{lowest_first, count_bytes, number_size, counts_size, total_refusal, total_slice, bytes_refusal, bytes_slice, counts_slice};
 ghost use Rattle.plan.specs.Plan.{plan};
+ghost use Rattle.orders.specs.Answer.{written_of};
 
-use answers::{is_accepted, number};
-use definitions::Verdict;
+use definitions::{Reason, Verdict};
 use judging::judge_counts;
-use orders::{Plan, write_plan};
+use orders::{Plan, Written, write_plan};
 
 // How many bytes one number takes, and the writer's three.
 const NUMBER_BYTES: usize = 8;
 
-const COUNTS_BYTES: usize = 24;
+const COUNTS_BYTES: usize = 3 * NUMBER_BYTES;
 
-// Writes k bytes of a number from an offset on, lowest first.
-fn put_number(out: &mut [u8], at: usize, v: u64, k: usize)
-    requires { at + k ≤ length out.old }
-    ensures { out.new ≡ sets out.old at (lowest_first k v) }
+// The number that a call returns: C has no `Result`.
+fn returned(verdict: Verdict) -> u32
+    ensures { result ≡ number_of (refusal_of verdict) }
 {
-    if k == 0 {
-        return;
+    match verdict {
+        Ok(()) => 0,
+        Err(reason) => reason.number(),
     }
-    out[at] = (v % 256) as u8;
-    put_number(out, at + 1, v / 256, k - 1);
 }
 
-fn put_counts(out: &mut [u8], bytes: usize, orders: usize, next: usize)
-    requires { length out.old ≡ 24 }
-    ensures { out.new ≡ count_bytes (record { bytes = bytes; orders = orders; next = next }) }
+// Fills 8 bytes with a number.
+#[tactic(auto, using(crate::proofs::Numbers::bytes_are))]
+fn put_number(out: &mut [u8], v: usize)
+    requires { length out.old ≡ number_size }
+    ensures { out.new ≡ lowest_first number_size v }
 {
-    put_number(out, 0, bytes as u64, NUMBER_BYTES);
-    put_number(out, NUMBER_BYTES, orders as u64, NUMBER_BYTES);
-    put_number(out, 2 * NUMBER_BYTES, next as u64, NUMBER_BYTES);
+    out.copy_from_slice(&(v as u64).to_le_bytes());
 }
 
-// The counts, and the length of the slice that takes the numbers: 3.
-fn judge_slice(n: usize, m: usize, length: usize, stated: usize) -> Verdict
-    ensures { refusal_of result ≡ first (counts_refusal n m) (length_refusal (eqb length stated)) }
+fn put_counts(out: &mut [u8], written: Written)
+    requires { length out.old ≡ counts_size }
+    ensures { out.new ≡ count_bytes (written_of written) }
 {
-    let by_counts = judge_counts(n, m);
-    if !is_accepted(by_counts) {
-        return by_counts;
+    let (bytes, rest) = out.split_at_mut(NUMBER_BYTES);
+    let (orders, next) = rest.split_at_mut(NUMBER_BYTES);
+    put_number(bytes, written.bytes);
+    put_number(orders, written.orders);
+    put_number(next, written.next);
+}
+
+#[tactic(auto, unfolding(definitions::specs::Plan::total_refusal, definitions::specs::Plan::total_slice, definitions::specs::Plan::total))]
+fn give_total(n: usize, m: usize, out: &mut [u8]) -> Verdict
+    ensures refusal { refusal_of result ≡ total_refusal n m (length out.old) }
+    ensures total { out.new ≡ total_slice plan n m out.old }
+{
+    let total = Plan::total(n, m)?;
+    if out.len() != NUMBER_BYTES {
+        return Err(Reason::Length);
     }
-    if length != stated {
-        return Verdict::Length;
+    put_number(out, total);
+    Ok(())
+}
+
+// 1, 2, 3 are judged here, 13 and 14 by the writer.
+#[tactic(auto, unfolding(definitions::specs::Plan::bytes_refusal, definitions::specs::Plan::bytes_slice, definitions::specs::Plan::counts_slice, definitions::specs::Plan::write_refusal, definitions::specs::Plan::ask_refusal, definitions::specs::Plan::write_slice, definitions::specs::Plan::write_counts))]
+fn give_bytes(n: usize, m: usize, position: usize, bytes: &mut [u8], out: &mut [u8]) -> Verdict
+    ensures refusal { refusal_of result ≡ bytes_refusal plan n m position (length bytes.old) (length out.old) }
+    ensures bytes { bytes.new ≡ bytes_slice plan n m position bytes.old (length out.old) }
+    ensures counts { out.new ≡ counts_slice plan n m position (length bytes.old) out.old }
+{
+    judge_counts(n, m)?;
+    if out.len() != COUNTS_BYTES {
+        return Err(Reason::Length);
     }
-    Verdict::Accepted
+    let written = write_plan(n, m, position, bytes)?;
+    put_counts(out, written);
+    Ok(())
 }
 
 // The plan's total, in 8 bytes.
@@ -60,13 +82,7 @@ pub extern "C" fn plan_total(n: u64, m: u64, out: &mut [u8]) -> u32
     ensures refusal { result ≡ number_of (total_refusal n m (length out.old)) }
     ensures total { out.new ≡ total_slice plan n m out.old }
 {
-    let verdict = judge_slice(n as usize, m as usize, out.len(), NUMBER_BYTES);
-    if !is_accepted(verdict) {
-        return number(verdict);
-    }
-    let total = Plan::total(n as usize, m as usize);
-    put_number(out, 0, total.orders as u64, NUMBER_BYTES);
-    0
+    returned(give_total(n as usize, m as usize, out))
 }
 
 // The plan's bytes from a position on, and in 24 bytes how many bytes and orders they are, and the next position.
@@ -76,15 +92,5 @@ pub extern "C" fn plan_bytes(n: u64, m: u64, position: u64, bytes: &mut [u8], ou
     ensures bytes { bytes.new ≡ bytes_slice plan n m position bytes.old (length out.old) }
     ensures counts { out.new ≡ counts_slice plan n m position (length bytes.old) out.old }
 {
-    let by_slice = judge_slice(n as usize, m as usize, out.len(), COUNTS_BYTES);
-    if !is_accepted(by_slice) {
-        return number(by_slice);
-    }
-    let written = write_plan(n as usize, m as usize, position as usize, bytes);
-    let verdict = written.verdict;
-    if !is_accepted(verdict) {
-        return number(verdict);
-    }
-    put_counts(out, written.bytes, written.orders, written.next);
-    0
+    returned(give_bytes(n as usize, m as usize, position as usize, bytes, out))
 }

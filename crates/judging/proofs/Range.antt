@@ -1,12 +1,7 @@
 -- A range's test of numbers that are read back from their bits is that of the numbers, and so a bid is judged as it was given.
-use Prim.Native.Nat.{ℕ}
-use mathlib.Core.Path.{◌≡◌, ap₂}
-use mathlib.Core.Bool.{◌&&◌}
-use lib.IntN.{ℤ}
+use Rattle.std.proofs.Common.{ℕ, ◌≡◌, ap₂, ◌&&◌, ℤ, SFits, to_z, of_z, to_z-of_z}
 use lib.Signed.{le_z}
 use mir.Syntax.{Width}
-use mir.Val.{SFits, to_z, of_z}
-use mir.Facts.{to_z-of_z}
 use Rattle.definitions.specs.Arithmetic.{within}
 use Rattle.definitions.specs.Answers.{Refusal, numbered}
 use Rattle.definitions.specs.Calls.{bid_fault}

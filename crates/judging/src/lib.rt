@@ -144,8 +144,7 @@ pub fn judge_book(book: &LentBook, cells: usize) -> Result<Counts, Reason>
 {
     let counts = judge_counts(book.n, book.m)?;
     judge_lengths(counts, book.bids.len(), book.capacities.len(), cells)?;
-    judge_bids(counts, book.bids)?;
-    judge_capacities(counts, book.capacities)?;
+    judge_bids(counts, book.bids).and(judge_capacities(counts, book.capacities))?;
     Ok(counts)
 }
 

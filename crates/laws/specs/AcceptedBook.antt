@@ -1,9 +1,8 @@
 -- What acceptance says of a book: its counts, its tables' lengths and its numbers as natural numbers (`accepted_sound`); it says no more
 -- (`sound_accepted`), and there is an accepted book for every n to the bid limit and every m from 1 to the pool limit (`books_exist`).
-use Rattle.std.specs.Prelude.{ℕ, zero, suc, ◌+◌, ◌-◌, ◌*◌, ◌≤◌, ◌<◌, ◌≡◌, refl, Bool, true, false, cond, ◌&&◌, List, [], ◌∷◌, leb, length, get_or, replicate, ℤ, pos, negsuc, neg_ℤ, nat_abs, ◌+ℤ◌}
-use Rattle.std.proofs.Common.{sym, ◌∙◌, true≢false, arith, eq-eqb, eqb-true, ne_eqb, le-ltb, leb-true, le-leb}
-use Rattle.std.proofs.Math.Path.{ap}
-use Rattle.std.proofs.Math.Dec.{eqb, eqb-suc-suc}
+use Rattle.std.specs.Prelude.{ℕ, zero, suc, ◌+◌, ◌-◌, ◌*◌, ◌≤◌, ◌<◌, ◌≡◌, refl, Bool, true, false, cond, ◌&&◌, List, [], ◌∷◌, leb, length, get_or, replicate, ℤ, pos, negsuc, neg_ℤ, nat_abs, ◌+ℤ◌, eqb}
+use Rattle.std.proofs.Common.{sym, ◌∙◌, true≢false, arith, eq-eqb, eqb-true, ne_eqb, le-ltb, leb-true, le-leb, ap}
+use Rattle.std.proofs.Math.Dec.{eqb-suc-suc}
 use Rattle.std.proofs.lemmas.List.{length-replicate, get_or-replicate}
 use Rattle.std.proofs.Math.ListN.{get_or-eq_default}
 use Rattle.std.specs.Int.Signed.{le_z}
@@ -12,7 +11,8 @@ use Rattle.definitions.specs.Arithmetic.{within, eq_z}
 use Rattle.definitions.specs.Book.{Book, book, pool, price, quantity, size, in_pool, capacity_entry, capacity}
 use Rattle.definitions.specs.Answers.{none, first, numbered}
 use Rattle.definitions.specs.Calls.{AcceptedBook, seal_refusal, counts_refusal, length_refusal, tables_right, bids_refusal, bid_fault, capacities_refusal, row_refusal, entry_refusal, capacity_fault}
-use Rattle.laws.specs.Tests.{Lt?, less, more, lt?, and_left, and_right}
+use Rattle.std.specs.Cmp.{first_so, second_so}
+use Rattle.laws.specs.Tests.{Lt?, less, more, lt?}
 use Rattle.laws.specs.SignedTests.{eq_z_true}
 use Rattle.laws.specs.Refusal.{first_left, first_right, first_both, all_none, none_all, numbered_zero}
 use Rattle.laws.specs.Sizes.{Sizes, accepted_sizes}
@@ -47,15 +47,15 @@ pub record Sound (B : Book) : Type 0 where
 -- 1 ≤ z ≤ m
 in_pools : (m : ℕ) (z : ℤ) → within (pos 1) (pos m) z ≡ true → (z ≡ pos (suc (nat_abs z - 1))) × (nat_abs z - 1 < m)
 in_pools m (pos zero) e = absurd (true≢false (sym e))
-in_pools m (pos (suc k)) e = (ap pos (omega arith), omega (arith, leb-true (suc k) m (and_right (le_z (pos 1) (pos (suc k))) _ e)))
+in_pools m (pos (suc k)) e = (ap pos (omega arith), omega (arith, leb-true (suc k) m (second_so (le_z (pos 1) (pos (suc k))) _ e)))
 in_pools m (negsuc k) e = absurd (true≢false (sym e))
 
 -- -k ≤ z ≤ k
 in_size : (k : ℕ) (z : ℤ) → within (neg_ℤ (pos k)) (pos k) z ≡ true → nat_abs z ≤ k
-in_size zero (pos a) e = leb-true a 0 (and_right (leb 0 a) _ e)
+in_size zero (pos a) e = leb-true a 0 (second_so (leb 0 a) _ e)
 in_size zero (negsuc a) e = absurd (true≢false (sym e))
 in_size (suc k) (pos a) e = leb-true a (suc k) e
-in_size (suc k) (negsuc a) e = omega (arith, leb-true a k (and_left (leb a k) _ e))
+in_size (suc k) (negsuc a) e = omega (arith, leb-true a k (first_so (leb a k) _ e))
 
 size_in : (k : ℕ) (z : ℤ) → nat_abs z ≤ k → within (neg_ℤ (pos k)) (pos k) z ≡ true
 size_in zero (pos a) h = rw (le-leb 0 a (omega arith), le-leb a 0 h) refl
@@ -76,7 +76,7 @@ raised k (negsuc a) h = go (lt? k (suc a))
 
 -- 0 ≤ z ≤ k
 not_negative : (k : ℕ) (z : ℤ) → within (pos 0) (pos k) z ≡ true → (z ≡ pos (nat_abs z)) × (nat_abs z ≤ k)
-not_negative k (pos a) e = (refl, leb-true a k (and_right (le_z (pos 0) (pos a)) _ e))
+not_negative k (pos a) e = (refl, leb-true a k (second_so (le_z (pos 0) (pos a)) _ e))
 not_negative k (negsuc a) e = absurd (true≢false (sym e))
 
 pub from_zero : (k : ℕ) (z : ℤ) → within (pos 0) (pos k) z ≡ true → (z ≡ pos (nat_abs z)) × (nat_abs z ≤ k)

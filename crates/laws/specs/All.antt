@@ -4,15 +4,16 @@ use Rattle.std.proofs.Common.{sym, ap, ap₂, ◌∙◌, true≢false, inl, inr,
 use Rattle.std.proofs.Math.Bool.{and-true, and_assoc}
 use Rattle.std.proofs.Math.Nat.{suc_inj}
 use Rattle.definitions.specs.Arithmetic.{all_to}
-use Rattle.laws.specs.Tests.{is_false, and_left, and_right}
+use Rattle.std.specs.Cmp.{first_so, second_so}
+use Rattle.laws.specs.Tests.{is_false}
 
 pub all_to_at : (n : ℕ) (t : ℕ → Bool) → all_to n t ≡ true → (i : ℕ) → i < n → t i ≡ true
 unfolding all_to
 all_to_at zero t e i l = absurd (omega arith)
-all_to_at (suc n) t e i l = go (eq-or-lt_of_le l) (λ l'. all_to_at n t (and_left (all_to n t) (t n) e) i l')
+all_to_at (suc n) t e i l = go (eq-or-lt_of_le l) (λ l'. all_to_at n t (first_so (all_to n t) (t n) e) i l')
   where
     go : (suc i ≡ suc n) ⊎ (suc i < suc n) → (i < n → t i ≡ true) → t i ≡ true
-    go (inl p) ih = ap t (suc_inj p) ∙ and_right (all_to n t) (t n) e
+    go (inl p) ih = ap t (suc_inj p) ∙ second_so (all_to n t) (t n) e
     go (inr p) ih = ih (omega arith)
 
 pub all_to_made : (n : ℕ) (t : ℕ → Bool) → ((i : ℕ) → i < n → t i ≡ true) → all_to n t ≡ true

@@ -1,9 +1,9 @@
 -- The size of a whole number: of a sum, a difference, a product; and that a number of small size fits.
 use Rattle.std.specs.Prelude.{ℕ, zero, suc, ◌+◌, ◌-◌, ◌*◌, ◌<◌, ◌≤◌, ◌^◌, ◌≡◌, refl, Bool, true, false, cond, ltb, ℤ, pos, negsuc, neg_ℤ, nat_abs, ◌+ℤ◌, ◌*ℤ◌}
-use Rattle.std.proofs.Common.{sym, subst, arith, mul-le-mul_left, mul-le-mul_right, le_trans, ltb-true}
+use Rattle.std.proofs.Common.{sym, subst, arith, mul-le-mul_left, mul-le-mul_right, le_trans, ltb-true, SFits}
 use Rattle.std.proofs.Math.IntN.{sub_ℕ}
 use Rattle.std.specs.Int.{Width}
-use mir.Val.{SFits, hbits}
+use mir.Val.{hbits}
 
 -- a number whose size is below half the width's power fits
 pub fits_size : (w : Width) (z : ℤ) → nat_abs z < 2 ^ hbits w → SFits w z

@@ -1,5 +1,5 @@
 -- Refusals as a function's code meets them: after a judge's `?`, and in a loop that leaves at the first one.
-use Rattle.std.specs.Prelude.{ℕ, suc, ◌+◌, ◌-◌, ◌<◌, ◌≤◌, ◌≡◌, Bool, true, false}
+use Rattle.std.specs.Prelude.{ℕ, suc, ◌+◌, ◌-◌, ◌<◌, ◌≤◌, ◌≡◌, false}
 use Rattle.std.proofs.Common.{sym, ap, ◌∙◌, arith}
 use Rattle.definitions.specs.declared.Reason.{Reason}
 use Rattle.definitions.specs.Answers.{Refusal, none, first, is_none, stated}

@@ -1,11 +1,11 @@
 -- What a test of two signed numbers tells, as the prover hands it over: each number that is no literal is read back from its bits, `to_z w (of_z w x)`.
 -- Each law says the same of the numbers themselves.
 use Rattle.std.specs.Prelude.{◌≡◌, refl, Bool, true, false, ℤ, pos, negsuc, nat_abs, ◌<◌, ◌^◌, T, ltb, eqb}
-use Rattle.std.proofs.Common.{sym, ap, ◌∙◌, subst, true≢false, eqb-true, eq-eqb, to_z-of_z}
+use Rattle.std.proofs.Common.{sym, ap, ◌∙◌, subst, true≢false, eqb-true, eq-eqb, to_z-of_z, w32, w64, SFits, Fits, to_z, of_z}
 use Rattle.std.specs.Int.Signed.{lt_z, non_neg, mag}
 use Rattle.definitions.specs.Arithmetic.{eq_z}
-use Rattle.std.specs.Int.{Width, w32, w64}
-use mir.Val.{SFits, Fits, to_z, of_z, bits, hbits}
+use Rattle.std.specs.Int.{Width}
+use mir.Val.{bits, hbits}
 use Rattle.std.proofs.Math.Facts.{Fits-nat_abs, sfits_widen}
 use Rattle.laws.specs.Tests.{is_false, Eq?, same, diff, eq?}
 

@@ -7,7 +7,7 @@ use Rattle.definitions.specs.Answers.{Refusal, none, refuse, first}
 use Rattle.definitions.specs.Book.{Book}
 use Rattle.definitions.specs.Sheet.{result_count}
 use Rattle.definitions.specs.Calls.{pools_refusal, counts_refusal, length_refusal, tables_right, bids_refusal, capacities_refusal, seal_refusal, results_refusal}
-use Rattle.laws.specs.Tests.{and_left, and_right}
+use Rattle.std.specs.Cmp.{first_so, second_so}
 use Rattle.laws.specs.Refusal.{not_refused, test_passed, first_left, first_right}
 
 -- what a count of pools that is not refused is within
@@ -57,14 +57,14 @@ pub record Lengths (n m bids capacities cells : ℕ) : Type 0 where
 -- both tables
 pub tables_measured : (n m bids capacities : ℕ) → (eqb bids (bid_numbers * n) && eqb capacities (m * m)) ≡ true → (bids ≡ bid_numbers * n) × (capacities ≡ m * m)
 tables_measured n m bids capacities e =
-    (eqb-true _ _ (and_left (eqb bids (bid_numbers * n)) _ e), eqb-true _ _ (and_right (eqb bids (bid_numbers * n)) _ e))
+    (eqb-true _ _ (first_so (eqb bids (bid_numbers * n)) _ e), eqb-true _ _ (second_so (eqb bids (bid_numbers * n)) _ e))
 
 pub measured : (n m bids capacities cells : ℕ) → length_refusal ((eqb bids (bid_numbers * n) && eqb capacities (m * m)) && eqb cells cell_count) ≡ none → Lengths n m bids capacities cells
 measured n m bids capacities cells e =
     let table-test : Bool = eqb bids (bid_numbers * n) && eqb capacities (m * m) in
     let all = test_passed (table-test && eqb cells cell_count) 3 0 e in
-    let tables = tables_measured n m bids capacities (and_left table-test _ all) in
-    record { bid_table = tables.0; capacity_table = tables.1; sheet = eqb-true _ _ (and_right table-test _ all) }
+    let tables = tables_measured n m bids capacities (first_so table-test _ all) in
+    record { bid_table = tables.0; capacity_table = tables.1; sheet = eqb-true _ _ (second_so table-test _ all) }
 
 -- of a book that is accepted for a sheet of some cells
 pub record Sizes (B : Book) (cells : ℕ) : Type 0 where

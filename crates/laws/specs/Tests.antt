@@ -1,6 +1,6 @@
 -- Tests on numbers, with what they say: match on `eq? a b` or `lt? a b`, whose index is the test's value; and a value where a test holds, else 0.
-use Rattle.std.specs.Prelude.{◌≡◌, refl, Bool, true, false, ◌&&◌, ◌||◌, ◌≢◌, ℕ, ◌≤◌, ◌<◌, eqb, ltb}
-use Rattle.std.proofs.Common.{sym, subst, true≢false, arith, eq-eqb, ne_eqb, lt-ltb, le-ltb}
+use Rattle.std.specs.Prelude.{◌≡◌, refl, Bool, true, false, ◌≢◌, ℕ, ◌≤◌, ◌<◌, eqb, ltb}
+use Rattle.std.proofs.Common.{sym, subst, arith, eq-eqb, ne_eqb, lt-ltb, le-ltb}
 use Rattle.std.proofs.Math.Decide.{ℕ_discrete, dec_lt}
 use Rattle.definitions.specs.Arithmetic.{on}
 
@@ -32,23 +32,6 @@ positive n h = omega arith
 pub is_false : (t : Bool) → (t ≡ true → ⊥) → t ≡ false
 is_false true h = absurd (h refl)
 is_false false h = refl
-
--- both tests hold
-pub and_left : (x y : Bool) → (x && y) ≡ true → x ≡ true
-and_left true y e = refl
-and_left false y e = e
-
-pub and_right : (x y : Bool) → (x && y) ≡ true → y ≡ true
-and_right true y e = e
-and_right false y e = absurd (true≢false (sym e))
-
--- one of two tests holds
-pub or_left : (x y : Bool) → x ≡ true → (x || y) ≡ true
-or_left x y e = rw e refl
-
-pub or_right : (x y : Bool) → y ≡ true → (x || y) ≡ true
-or_right true y e = refl
-or_right false y e = e
 
 -- ---- a value where a test holds, else 0
 

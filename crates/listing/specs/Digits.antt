@@ -1,8 +1,16 @@
--- Decimal digits: the cases of a number's digits, and how many there are at most.
-use Rattle.std.specs.Prelude.{ℕ, zero, suc, ◌+◌, ◌-◌, ◌/◌, ◌%◌, ◌≤◌, ◌<◌, ◌≡◌, refl, Bool, cond, [], ◌∷◌, ◌++◌, length, ℤ, pos, negsuc}
-use Rattle.std.proofs.Common.{ap, arith, sub-one, length-append, lt-ltb, le-ltb}
+-- Decimal digits: how many there are at most, and that std prints the same ones.
+use Rattle.std.specs.Prelude.{List, ◌^◌, ℕ, zero, suc, ◌+◌, ◌-◌, ◌/◌, ◌%◌, ◌≤◌, ◌<◌, ◌≡◌, refl, Bool, cond, [], ◌∷◌, ◌++◌, length, ℤ, pos, negsuc}
+use Rattle.std.proofs.Common.{sym, ap, arith, sub-one, length-append, lt-ltb, le-ltb}
+use Rattle.std.specs.Int.Signed.{mag}
+use Rattle.std.specs.Fmt as std
+use Rattle.std.proofs.lemmas.Fmt.{AppendsLastDigit, decimal_from_appends, length-decimal-le}
 use Rattle.definitions.specs.Settle.{decimal_to, decimal, decimal_z}
 use Rattle.laws.specs.Tests.{Lt?, less, more, lt?}
+
+-- the digits are those of std's numbers: the last one behind the others
+pub last_digit : AppendsLastDigit decimal_to
+unfolding decimal_to
+last_digit = record { one = λ k v l. simp (lt-ltb v 10 l); more = λ k v l. simp (le-ltb v 10 l) }
 
 -- ---- the cases of the digits
 
@@ -12,14 +20,12 @@ no_digits zero v e = refl
 no_digits (suc k) v e = absurd (omega arith)
 
 pub one_digit : (k v : ℕ) → (k ≡ 0 → ⊥) → v < 10 → decimal_to k v ≡ (48 + v) ∷ []
-unfolding decimal_to
 one_digit zero v e h = absurd (e refl)
-one_digit (suc k) v e h = simp (lt-ltb v 10 h)
+one_digit (suc k) v e h = last_digit.one k v h
 
 pub more_digits : (k v : ℕ) → (k ≡ 0 → ⊥) → 10 ≤ v → decimal_to k v ≡ decimal_to (k - 1) (v / 10) ++ ((48 + v % 10) ∷ [])
-unfolding decimal_to
 more_digits zero v e h = absurd (e refl)
-more_digits (suc k) v e h = simp (le-ltb v 10 h, sub-one)
+more_digits (suc k) v e h = rw sub-one (last_digit.more k v h)
 
 -- ---- how many there are
 
@@ -53,5 +59,16 @@ two_digits v h = go (lt? v 10)
         omega (
           arith,
           length-append (decimal_to 19 (v / 10)) ((48 + v % 10) ∷ []),
-          ap length (one_digit 19 (v / 10) (λ e. omega arith) (omega arith)),
+          ap length (last_digit.one 18 (v / 10) (omega arith)),
         )
+
+-- ---- std prints the same digits
+
+pub decimal_printed : (v : ℕ) → v < 2 ^ 64 → std.decimal v ≡ decimal v
+unfolding decimal
+decimal_printed v h = sym (decimal_from_appends decimal_to last_digit 20 v h (length-decimal-le 20 v (omega arith) (omega arith) h))
+
+pub signed_printed : (z : ℤ) → mag z < 2 ^ 63 → std.signed_decimal z ≡ decimal_z z
+unfolding decimal_z
+signed_printed (pos v) h = decimal_printed v (omega arith)
+signed_printed (negsuc v) h = ap (λ (l : List ℕ). 45 ∷ l) (decimal_printed (suc v) (omega arith))

@@ -2,7 +2,8 @@
 pub mod Digits
 pub mod Lines
 pub mod Negative
-pub mod Put
+pub mod Page
+pub mod Prices
 pub mod ReadBack
 pub mod Room
 pub mod Text

@@ -1,9 +1,8 @@
--- A number below 0: its size as the code takes it, and its digits behind a minus.
+-- A number below 0: its size, and its digits behind a minus.
 use Rattle.std.specs.Prelude.{suc, ◌-◌, ◌<◌, ◌≡◌, refl, Bool, true, false, cond, ◌∷◌, ℤ, pos, negsuc, nat_abs, ◌-ℤ◌}
-use Rattle.std.proofs.Common.{sym, ap, ◌∙◌, subst, true≢false, arith, ltb-true, SFits, to_z, of_z, to_z-of_z}
+use Rattle.std.proofs.Common.{true≢false, arith, ltb-true, SFits}
 use Rattle.std.specs.Int.Signed.{lt_z}
-use Rattle.std.specs.Int.{Width, w32, w64}
-use Rattle.std.proofs.Math.Facts.{sfits_widen}
+use Rattle.std.specs.Int.{Width}
 use Rattle.definitions.specs.Settle.{decimal_z, decimal}
 use Rattle.laws.specs.Tests.{Lt?, less, more, lt?}
 
@@ -33,10 +32,3 @@ pub digits_positive : (z : ℤ) → lt_z z (pos 0) ≡ false → decimal_z z ≡
 unfolding decimal_z
 digits_positive (pos n) e = refl
 digits_positive (negsuc n) e = absurd (true≢false e)
-
--- a number of 32 bits fits in 64, and is read back from its 64 bits
-pub widened_fits : {z : ℤ} → SFits w32 z → SFits w64 (to_z w32 (of_z w32 z))
-widened_fits f = subst (SFits w64) (sym (to_z-of_z f)) (sfits_widen tt f)
-
-pub widened : {z : ℤ} → SFits w32 z → to_z w64 (of_z w64 (to_z w32 (of_z w32 z))) ≡ z
-widened f = ap (λ (z : ℤ). to_z w64 (of_z w64 z)) (to_z-of_z f) ∙ to_z-of_z {w = w64} (sfits_widen tt f)

@@ -3,7 +3,8 @@ use Rattle.std.specs.Prelude.{ℕ, zero, suc, ◌+◌, ◌-◌, ◌*◌, ◌/◌
 use Rattle.std.proofs.Common.{sym, ap, ◌∙◌, append_assoc, append-nil, arith, le-leb, ne_eqb, leb-true}
 use Rattle.definitions.specs.Arithmetic.{within}
 use Rattle.definitions.specs.Settle.{whole, digits_from, digits, signed, whole_of, decimal_to, decimal, decimal_z}
-use Rattle.laws.specs.Tests.{Lt?, less, more, lt?, and_left}
+use Rattle.std.specs.Cmp.{first_so}
+use Rattle.laws.specs.Tests.{Lt?, less, more, lt?}
 
 -- the numbers of at most k digits are those below it
 ten_to : (k : ℕ) → ℕ
@@ -68,5 +69,5 @@ printed_read_back (pos v) e =
     let small = leb-true v 2147483647 e in
     rw (positive_read (decimal v) (begins 19 v), decimal_read false v (omega arith), e) refl
 printed_read_back (negsuc v) e =
-    let small = leb-true v 2147483647 (and_left (leb v 2147483647) true e) in
+    let small = leb-true v 2147483647 (first_so (leb v 2147483647) true e) in
     rw (negative_read (decimal (suc v)) (begins 19 (suc v)), decimal_read true (suc v) (omega arith), e) refl

@@ -1,4 +1,2 @@
--- Laws that the proofs cite, and computed facts about a step.
-pub mod ProductBits
-pub mod KindResult
+-- Computed facts about a step.
 pub mod StepFacts

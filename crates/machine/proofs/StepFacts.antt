@@ -1,8 +1,5 @@
 -- What a step leaves on single sheets and slices, by computation.
-use mathlib.Core.Path.{◌≡◌, refl}
-use mathlib.Core.List.{List, [], ◌∷◌}
-use lib.ListN.{replicate}
-use Prim.Native.Nat.{ℕ}
+use Rattle.std.proofs.Common.{◌≡◌, refl, List, [], ◌∷◌, replicate, ℕ}
 use Rattle.definitions.specs.declared.Order.TheVariants.{Constant, Sum, Less}
 use Rattle.definitions.specs.Limits.{modulus}
 use Rattle.machine.specs.Step.{stepped}

@@ -7,7 +7,7 @@ use Rattle.definitions.specs.declared.Order.TheVariants.{Constant, Sum, Differen
 use Rattle.definitions.specs.Limits.{cell_count, modulus}
 use Rattle.definitions.specs.Answers.{parts_of}
 use Rattle.definitions.specs.Machine.{cell, plus, minus, times, less_than, same_as, step_of}
-use Rattle.laws.specs.Tests.{and_left, and_right}
+use Rattle.std.specs.Cmp.{first_so, second_so}
 use Rattle.machine.specs.Step.{constant_runs, cells_run, runnable, cells_run_lem}
 
 -- what an order of a kind makes of its constant and of two cells' contents
@@ -45,10 +45,10 @@ pub record Runs (s : List ℕ) (q : Parts) : Type 0 where
 module _ (s : List ℕ) where
   constant_parts : (d k : ℕ) → runnable s (Constant d k) ≡ true → Runs s (parts_of (Constant d k))
   constant_parts d k e =
-      let f = and_right (eqb (length s) cell_count) (constant_runs d k) e in
+      let f = second_so (eqb (length s) cell_count) (constant_runs d k) e in
       record {
-        cells = eqb-true _ _ (and_left (eqb (length s) cell_count) _ e);
-        target = ltb-true _ _ (and_left (ltb d cell_count) _ f);
+        cells = eqb-true _ _ (first_so (eqb (length s) cell_count) _ e);
+        target = ltb-true _ _ (first_so (ltb d cell_count) _ f);
         left = omega arith;
         right = omega arith;
         residues = λ h. absurd (let x : ⊥ = omega arith in x);
@@ -56,9 +56,9 @@ module _ (s : List ℕ) where
 
   cells_parts : (kind d a b : ℕ) → (eqb (length s) cell_count && cells_run s d a b) ≡ true → Runs s (record { kind = kind; d = d; k = 0; a = a; b = b })
   cells_parts kind d a b e =
-      let r = cells_run_lem s d a b (and_right (eqb (length s) cell_count) (cells_run s d a b) e) in
+      let r = cells_run_lem s d a b (second_so (eqb (length s) cell_count) (cells_run s d a b) e) in
       record {
-        cells = eqb-true _ _ (and_left (eqb (length s) cell_count) _ e);
+        cells = eqb-true _ _ (first_so (eqb (length s) cell_count) _ e);
         target = r.cells.0;
         left = r.cells.1;
         right = r.cells.2;

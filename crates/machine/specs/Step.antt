@@ -6,7 +6,7 @@ use Rattle.definitions.specs.declared.Order.{Order}
 use Rattle.definitions.specs.declared.Order.TheVariants.{Constant, Sum, Difference, Product, Less, Equal}
 use Rattle.definitions.specs.Limits.{cell_count, modulus}
 use Rattle.definitions.specs.Machine.{cell, step_of, IsSheet, WellFormed, ThreeCells}
-use Rattle.laws.specs.Tests.{and_left, and_right}
+use Rattle.std.specs.Cmp.{first_so, second_so}
 
 -- cell c is one of the sheet's and holds a residue
 abbrev pub holds_residue : List ℕ → (c : ℕ) → Bool
@@ -66,13 +66,13 @@ module _ (s : List ℕ) where
 
   pub cells_run_lem : (d a b : ℕ) → cells_run s d a b ≡ true → CellsRun d a b
   cells_run_lem d a b e =
-      let f = and_right (ltb d cell_count) (holds_residue s a && holds_residue s b) e in
-      let g = and_left (holds_residue s a) (holds_residue s b) f in
-      let h = and_right (holds_residue s a) (holds_residue s b) f in
+      let f = second_so (ltb d cell_count) (holds_residue s a && holds_residue s b) e in
+      let g = first_so (holds_residue s a) (holds_residue s b) f in
+      let h = second_so (holds_residue s a) (holds_residue s b) f in
       record {
-        cells = (ltb-true _ _ (and_left (ltb d cell_count) _ e), ltb-true _ _ (and_left (ltb a cell_count) _ g), ltb-true _ _ (and_left (ltb b cell_count) _ h));
-        first = ltb-true _ _ (and_right (ltb a cell_count) _ g);
-        second = ltb-true _ _ (and_right (ltb b cell_count) _ h);
+        cells = (ltb-true _ _ (first_so (ltb d cell_count) _ e), ltb-true _ _ (first_so (ltb a cell_count) _ g), ltb-true _ _ (first_so (ltb b cell_count) _ h));
+        first = ltb-true _ _ (second_so (ltb a cell_count) _ g);
+        second = ltb-true _ _ (second_so (ltb b cell_count) _ h);
       }
 
   pub runs_cells : (d a b : ℕ) → CellsRun d a b → cells_run s d a b ≡ true

@@ -1,7 +1,6 @@
 -- What is known of counts, sheet and results that opening does not refuse, and how many results it gives (`opened_length`).
 use Rattle.std.specs.Prelude.{ℕ, ◌+◌, ◌≤◌, ◌<◌, ◌≡◌, List, eqb, length}
-use Rattle.std.proofs.Common.{arith, mul-le-mul_right}
-use borrow.Author.Tests.{eqb-true}
+use Rattle.std.proofs.Common.{arith, mul-le-mul_right, eqb-true}
 use Rattle.definitions.specs.Limits.{bid_limit, pool_limit, cell_count, modulus}
 use Rattle.definitions.specs.Answers.{Refusal, none, first}
 use Rattle.definitions.specs.Sheet.{first_result, result_count}
@@ -37,6 +36,12 @@ module _ (n m : ℕ) (sheet : List ℕ) (results : ℕ) (opens : open_refusal n 
         cells = eqb-true _ _ (test_passed (eqb (length sheet) cell_count) 3 0 (first_left by_length by-cells after));
         below = cells_below sheet (first_right by_length by-cells after);
       }
+
+  -- the results' cells are cells of the sheet
+  pub results_fit : (from : ℕ) → from ≡ first_result n m → from + results ≤ length sheet
+  results_fit from e =
+      let counts = openable.sizes.counts in
+      omega (arith, openable.cells, openable.sizes.count, results_end n m counts.bids counts.pools.most)
 
   pub opened_length : length (opened_results n m sheet) ≡ result_count n m
   unfolding opened_results

@@ -1,11 +1,8 @@
 -- What is opened of a sheet that a book's plan has left is the best clearing: its accepted amounts, its flows by rows, and of each pool the
 -- signed price and the presence (`opened_outcome`).
-use Prim.Native.Nat.{ℕ, zero, suc, ◌+◌, ◌*◌, ◌≤◌, ◌<◌}
-use Rattle.std.specs.Prelude.{◌≡◌, refl, Bool, true, false, cond, length, take, drop, ℤ, pos, nat_abs}
-use Rattle.std.proofs.Math.Path.{ap, ap₂}
-use Rattle.std.proofs.Common.{◌∙◌, mul-le-mul, drop-cons, drop-drop, take-add}
-use mathlib.Core.List.{List, [], ◌∷◌, ◌++◌, map, map-append}
-use native.Mathlib.Omega.{arith}
+use Rattle.std.specs.Prelude.{ℕ, zero, suc, ◌+◌, ◌*◌, ◌≤◌, ◌<◌, ◌≡◌, refl, Bool, true, false, cond, length, take, drop, ℤ, pos, nat_abs, List, [], ◌∷◌, ◌++◌, map}
+use Rattle.std.proofs.Common.{ap, ap₂, ◌∙◌, mul-le-mul, drop-cons, drop-drop, take-add, arith}
+use Rattle.std.proofs.lemmas.List.{map-append}
 use Rattle.std.proofs.Math.Arith.{digits_lt}
 use Rattle.std.specs.Int.Signed.{lt_z}
 use Rattle.definitions.specs.Limits.{pool_limit, price_limit, greatest_positive, pool_results}

@@ -1,8 +1,6 @@
 -- Asking a plan at a position: refused by the counts or past the total, ended at the total, an order before it.
 use Rattle.std.specs.Prelude.{ℕ, ◌+◌, ◌≤◌, ◌<◌, ◌≡◌, length, get_or}
-use Rattle.std.proofs.Math.Path.{refl, ap}
-use Rattle.std.proofs.Common.{◌∙◌, true≢false, arith, lt-ltb, le-ltb}
-use Rattle.std.proofs.Math.Bool.{false}
+use Rattle.std.proofs.Common.{refl, ap, ◌∙◌, true≢false, arith, lt-ltb, le-ltb, false}
 use Rattle.definitions.specs.declared.Order.TheVariants.{Constant}
 use Rattle.definitions.specs.Answers.{Refusal, none, refuse, first, unless, is_none}
 use Rattle.definitions.specs.Calls.{counts_refusal}

@@ -1,8 +1,7 @@
 -- Every number that the plan computes of a sound book is below half the modulus, so that nothing wraps: what the theory's bounds of the closed forms give for
 -- the sums and differences that the plan makes of them.
 use Rattle.std.specs.Prelude.{Bool, not, ◌&&◌, ℕ, ◌+◌, ◌-◌, ◌*◌, ◌^◌, ◌≤◌, ◌<◌, ltb, eqb}
-use Rattle.std.proofs.Math.Bool.{true, false, cond}
-use Rattle.std.proofs.Common.{mul-le-mul_right, arith}
+use Rattle.std.proofs.Common.{true, false, cond, mul-le-mul_right, arith}
 use Rattle.definitions.specs.Limits.{pool_limit, price_limit, quantity_limit, greatest_positive}
 use Rattle.definitions.specs.Arithmetic.{on, sum_to}
 use Rattle.definitions.specs.Book.{Book, purchase, sale, size}

@@ -1,13 +1,8 @@
 -- The run of the plan from the sealed sheet of a sound book leaves the closed forms in document 01's result cells, inputs as sealed and 0 in scratch (`plan_clears`).
 use Rattle.std.specs.Prelude.{◌≡◌, ◌≢◌, Bool, true, length}
-use Rattle.std.proofs.Math.Path.{refl, ap}
-use Rattle.std.proofs.Common.{subst, ◌∙◌, le_refl, lit<, get_or-set_same}
-use mathlib.Core.List.{List, [], ◌∷◌, ◌++◌, map, map-append}
-use Prim.Native.Nat.{ℕ, zero, suc, ◌+◌, ◌*◌, ◌≤◌, ◌<◌}
-use native.Mathlib.Omega.{arith}
+use Rattle.std.proofs.Common.{refl, ap, subst, ◌∙◌, le_refl, lit<, get_or-set_same, List, [], ◌∷◌, ◌++◌, map, ℕ, zero, suc, ◌+◌, ◌*◌, ◌≤◌, ◌<◌, arith, set, get_or-set_other}
+use mathlib.Core.List.{map-append}
 use Rattle.std.proofs.Math.Arith.{digits_lt}
-use Rattle.std.proofs.Math.ListN.{set}
-use Rattle.std.proofs.Math.Seq.{get_or-set_other}
 use Rattle.definitions.specs.declared.Order.{Order}
 use Rattle.definitions.specs.Limits.{cell_count}
 use Rattle.definitions.specs.Arithmetic.{sum_to}

@@ -1,7 +1,6 @@
 -- The phases that fill the demands and the cuts.
 use Rattle.std.specs.Prelude.{◌≡◌, Bool, true, false, cond, [], ◌∷◌, ◌++◌, ℕ, ◌+◌, ◌^◌, ◌<◌}
-use Rattle.std.proofs.Math.Path.{refl, ap}
-use Rattle.std.proofs.Common.{◌∙◌, arith, lit<}
+use Rattle.std.proofs.Common.{refl, ap, ◌∙◌, arith, lit<}
 use Rattle.std.proofs.Math.Arith.{lt-one}
 use Rattle.definitions.specs.Limits.{modulus}
 use Rattle.definitions.specs.Arithmetic.{on, sum_to}

@@ -1,7 +1,6 @@
 -- Different names have different cells (`address_apart`).
 use Rattle.std.specs.Prelude.{◌≡◌, Bool, ℕ, suc, ◌+◌, ◌*◌, ◌≤◌, ◌<◌}
-use Rattle.std.proofs.Common.{ap, arith}
-use Rattle.std.proofs.Math.Path.{subst}
+use Rattle.std.proofs.Common.{ap, arith, subst}
 use Rattle.std.proofs.Math.Arith.{digits_lt, digits_div, digits_mod}
 use Rattle.definitions.specs.Arithmetic.{sum_to}
 use Rattle.laws.specs.Sum.{sum_prefix}

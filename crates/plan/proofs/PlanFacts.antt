@@ -1,9 +1,8 @@
 -- The plan's length and the limit on it (`plan_length`, `plan_bound`), its order at a position (`plan_has`), and that each of its orders is one of the
 -- machine's and writes no input (`table_placed`, `plan_writes_no_input`).
 use Rattle.std.specs.Prelude.{◌≡◌, refl, ℕ, ◌+◌, ◌*◌, ◌^◌, ◌≤◌, ◌<◌, length}
-use Rattle.std.proofs.Common.{◌∙◌, mul-le-mul, mul-le-mul_left, pow_mono}
+use Rattle.std.proofs.Common.{◌∙◌, mul-le-mul, mul-le-mul_left, pow_mono, arith}
 use Rattle.std.proofs.Math.Nat.{pow-le-pow_left}
-use native.Mathlib.Omega.{arith}
 use Rattle.std.proofs.Math.ListN.{length-map}
 use Rattle.definitions.specs.Limits.{bid_limit, pool_limit, cell_count}
 use Rattle.definitions.specs.Arithmetic.{sum_to}

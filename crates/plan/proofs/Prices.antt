@@ -1,7 +1,6 @@
 -- The phases that fill the offers, the greatest offer of each pool, and the pools' price and presence cells.
 use Rattle.std.specs.Prelude.{◌≡◌, Bool, true, false, not, ◌&&◌, [], ◌∷◌, ℕ, zero, suc, ◌≤◌, ◌<◌, ltb, eqb}
-use Rattle.std.proofs.Math.Path.{refl}
-use Rattle.std.proofs.Common.{arith, lit<, lit≤}
+use Rattle.std.proofs.Common.{refl, arith, lit<, lit≤}
 use Rattle.definitions.specs.Limits.{modulus, greatest_positive, price_limit, pool_results}
 use Rattle.definitions.specs.Arithmetic.{on}
 use Rattle.definitions.specs.Book.{Book, purchase}

@@ -1,6 +1,6 @@
 -- Every order of the work names cells of the families' tables and writes no input (`work_each`).
 use Rattle.std.specs.Prelude.{Bool, true, false, cond, [], ◌∷◌, ℕ, ◌*◌, ◌%◌, ◌/◌, ◌^◌, ◌≤◌, ◌<◌, ltb}
-use native.Mathlib.Omega.{arith}
+use Rattle.std.proofs.Common.{arith}
 use Rattle.definitions.specs.Limits.{modulus}
 use Rattle.laws.specs.Rows.{row_column}
 use Rattle.laws.specs.Tests.{Eq?, same, diff, eq?}

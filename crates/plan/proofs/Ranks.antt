@@ -1,10 +1,6 @@
 -- The phases that fill the ranks, the used and the accepted amounts.
 use Rattle.std.specs.Prelude.{◌≡◌, Bool, true, false, not, cond, ltb, eqb}
-use Rattle.std.proofs.Math.Path.{refl, ap}
-use Rattle.std.proofs.Common.{◌∙◌, arith, lit<}
-use mathlib.Core.List.{List, [], ◌∷◌}
-use Prim.Native.Nat.{ℕ, suc, ◌+◌, ◌-◌, ◌*◌, ◌^◌, ◌≤◌, ◌<◌}
-use borrow.Author.Tests.{ne_eqb}
+use Rattle.std.proofs.Common.{refl, ap, ◌∙◌, arith, lit<, List, [], ◌∷◌, ℕ, suc, ◌+◌, ◌-◌, ◌*◌, ◌^◌, ◌≤◌, ◌<◌, ne_eqb}
 use Rattle.definitions.specs.Limits.{greatest_positive, pool_limit, quantity_limit}
 use Rattle.definitions.specs.Arithmetic.{on, sum_to}
 use Rattle.definitions.specs.Book.{Book, purchase, size}

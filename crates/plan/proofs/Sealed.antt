@@ -1,10 +1,7 @@
 -- What the sealed sheet of a sound book holds, by names (`sealed_inputs`).
 use Rattle.std.specs.Prelude.{◌≡◌, length}
-use Rattle.std.proofs.Math.Path.{ap}
-use Rattle.std.proofs.Common.{◌∙◌, arith}
+use Rattle.std.proofs.Common.{ap, ◌∙◌, arith, [], ◌∷◌, ℕ, zero, suc, ◌+◌, ◌*◌, ◌<◌}
 use Rattle.std.proofs.lemmas.Bool.{false≢true}
-use mathlib.Core.List.{[], ◌∷◌}
-use Prim.Native.Nat.{ℕ, zero, suc, ◌+◌, ◌*◌, ◌<◌}
 use Rattle.std.proofs.Math.Arith.{digits_lt}
 use Rattle.definitions.specs.Limits.{bid_numbers, price_place, quantity_place}
 use Rattle.definitions.specs.Arithmetic.{sum_to, residue}

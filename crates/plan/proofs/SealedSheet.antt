@@ -1,7 +1,6 @@
 -- What the sealed sheet of a sound book holds, cell by cell, and that it is a sheet: every cell is below p (`sealed_is_sheet`).
 use Rattle.std.specs.Prelude.{◌≡◌, Bool, ℕ, zero, suc, ◌+◌, ◌-◌, ◌*◌, ◌≤◌, ◌<◌, ◌/◌, ◌%◌, pos, nat_abs, length, get_or, replicate}
-use Rattle.std.proofs.Common.{sym, ap, ◌∙◌, arith, mul-le-mul, length-append, get_or-append-add}
-use mathlib.Core.List.{List, ◌++◌, map, append_assoc}
+use Rattle.std.proofs.Common.{sym, ap, ◌∙◌, arith, mul-le-mul, length-append, get_or-append-add, List, ◌++◌, map, append_assoc}
 use Rattle.std.proofs.lemmas.List.{length-map, length-replicate, get_or-replicate}
 use Rattle.std.proofs.Math.ListN.{get_or-append, get_or-map, get_or-eq_default}
 use Rattle.definitions.specs.Limits.{bid_numbers, cell_count, modulus, greatest_positive}

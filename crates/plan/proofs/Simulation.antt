@@ -1,9 +1,6 @@
 -- Orders over names, each name replaced by its cell's number, do on a sheet what they do on names (`run_agrees`).
 use Rattle.std.specs.Prelude.{◌≡◌, refl, ◌≢◌, Bool, true, false, cond, ℕ, ◌≤◌, ◌<◌, set}
-use Rattle.std.proofs.Common.{sym, ◌∙◌, true≢false, arith, get_or-set_same, get_or-set_other}
-use Rattle.std.proofs.Math.Path.{ap}
-use mathlib.Core.List.{List, [], ◌∷◌, map}
-use Rattle.std.proofs.Math.ListN.{length, length-set}
+use Rattle.std.proofs.Common.{sym, ◌∙◌, true≢false, arith, get_or-set_same, get_or-set_other, ap, List, [], ◌∷◌, map, length, length-set}
 use Rattle.definitions.specs.Machine.{cell, step_of, run_of}
 use Rattle.plan.specs.Orders.{OrderOn, constant, operate, target, outcome, result, order_of, step_is, renamed, State, update, step, run}
 use Rattle.plan.specs.Names.{Name, same}

@@ -1,6 +1,6 @@
 -- The whole work on names, phase after phase of the table: from the inputs to the results (`work_done`).
-use Rattle.std.proofs.Math.Path.{refl}
 use Rattle.std.specs.Prelude.{List, [], ◌∷◌}
+use Rattle.std.proofs.Common.{refl}
 use Rattle.definitions.specs.Book.{Book}
 use Rattle.laws.specs.AcceptedBook.{Sound}
 use Rattle.plan.specs.Orders.{State, run}

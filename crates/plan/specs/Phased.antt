@@ -1,10 +1,8 @@
 -- A list as a table of phases: each phase repeats its row, a row is a few parts, and a part repeats its block over columns.
 -- What stands at a place (`in_row`, `in_rows`, `in_table`), how long the list is (`flat_length`), what holds of all entries (`each_flat`).
-use Rattle.std.specs.Prelude.{◌≡◌, ◌⊎◌, List, [], ◌∷◌, ◌++◌, map, get_or}
-use Rattle.std.proofs.Math.Path.{refl, ap}
-use Rattle.std.proofs.Common.{sym, subst, ◌∙◌, inl, inr, append_assoc, not-suc-le-zero, eq-or-lt_of_le, le_of_suc-le-suc, le_refl, arith, get_or-append-add}
-use Prim.Native.Nat.{ℕ, zero, suc, ◌+◌, ◌*◌, ◌<◌}
-use Rattle.std.proofs.Math.ListN.{length, length-append, get_or-append}
+use Rattle.std.specs.Prelude.{◌≡◌, ◌⊎◌, List, [], ◌∷◌, ◌++◌, map, get_or, refl, ℕ, zero, suc, ◌+◌, ◌*◌, ◌<◌, length}
+use Rattle.std.proofs.Common.{ap, sym, subst, ◌∙◌, inl, inr, append_assoc, not-suc-le-zero, eq-or-lt_of_le, le_of_suc-le-suc, le_refl, arith, get_or-append-add, length-append}
+use Rattle.std.proofs.Math.ListN.{get_or-append}
 use Rattle.std.proofs.lemmas.List.{length-map}
 use Rattle.definitions.specs.Arithmetic.{sum_to}
 use Rattle.plan.specs.Loops.{loop}

@@ -2,7 +2,6 @@
 // A part of a plan is not run: where more is left to read than the room takes, or a read fails, `not read whole` is printed.
 #![tactic(auto)]
 
-use answers::is_accepted;
 use definitions::Limits;
 use gathering::gather;
 use printing::{print_cells, print_number, print_verdict};
@@ -17,22 +16,27 @@ impl Replay {
     const ROOM: usize = 524_288;
 }
 
-// Reads a plan into the bytes lent, runs it and prints what it leaves.
-fn run_and_print(rt: &HostRuntime, bytes: &mut [u8; Replay::ROOM]) -> io::Result<()> {
-    let gathered = gather(&mut rt.stdin(), bytes);
-    if !gathered.whole {
-        return rt.write_all(b"not read whole\n");
-    }
+// Runs plan bytes on an empty sheet and prints what that leaves, or why they are refused.
+fn run_and_print(rt: &impl Print, bytes: &[u8]) -> io::Result<()> {
     let mut sheet = [0u32; Limits::CELLS];
-    let ran = run(&mut sheet, &bytes[..gathered.size]);
-    if !is_accepted(ran.verdict) {
-        return print_verdict(rt, ran.verdict);
+    match run(&mut sheet, bytes) {
+        Ok(orders) => {
+            print_number(rt, b"orders", orders)?;
+            print_cells(rt, &sheet)
+        }
+        Err(reason) => print_verdict(rt, Err(reason)),
     }
-    print_number(rt, b"orders", ran.orders)?;
-    print_cells(rt, &sheet)
+}
+
+// Reads a plan into the bytes lent, and runs it.
+fn read_and_run(rt: &HostRuntime, bytes: &mut [u8; Replay::ROOM]) -> io::Result<()> {
+    match gather(&mut rt.stdin(), bytes) {
+        Ok(size) => run_and_print(rt, &bytes[..size]),
+        Err(_) => rt.println("not read whole"),
+    }
 }
 
 fn main(rt: HostRuntime) -> io::Result<()> {
     let mut bytes = [0u8; Replay::ROOM];
-    run_and_print(&rt, &mut bytes)
+    read_and_run(&rt, &mut bytes)
 }

@@ -13,14 +13,12 @@ use definitions::Limits;
 pub fn residue(v: i32) -> u32
     ensures { result ≡ arithmetic.residue v }
 {
+    let size = v.unsigned_abs();
     if v < 0 {
-        let raised = v + Limits::MODULUS as i32;
-        if raised < 0 {
-            return 0;
-        }
-        return raised as u32;
+        Limits::MODULUS.saturating_sub(size)
+    } else {
+        size
     }
-    v as u32
 }
 
 // A cell read with sign; a number that is no residue, which no sheet holds, as 0.
@@ -28,10 +26,10 @@ pub fn reading(x: u32) -> i32
     ensures { result ≡ read x }
 {
     if Limits::MODULUS <= x {
-        return 0;
+        0
+    } else if Limits::POSITIVE < x {
+        x as i32 - Limits::MODULUS as i32
+    } else {
+        x as i32
     }
-    if Limits::POSITIVE < x {
-        return x as i32 - Limits::MODULUS as i32;
-    }
-    x as i32
 }

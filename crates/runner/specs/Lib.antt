@@ -1,2 +1,3 @@
 -- What is proved of the runner's definitions.
+pub mod Left
 pub mod Runs

@@ -1,7 +1,6 @@
 -- The runner's refusals in turn, what an accepted run says of its sheet (`ran_on_sheet`) and leaves (`run_leaves_sheet`), and that the bytes of a list of
 -- orders run as that list (`orders_bytes_run`).
-use Rattle.std.specs.Prelude.{ℕ, ◌≡◌, true, false, List, eqb, length}
-use Rattle.std.proofs.Math.Path.{refl}
+use Rattle.std.specs.Prelude.{ℕ, ◌≡◌, true, false, List, eqb, length, refl}
 use Rattle.std.proofs.Common.{sym, ap, ◌∙◌, subst, eq-eqb, ne_eqb, eqb-true}
 use Rattle.definitions.specs.declared.Order.{Order}
 use Rattle.definitions.specs.Limits.{cell_count}

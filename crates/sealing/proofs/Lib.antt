@@ -1,2 +1,2 @@
--- Laws that the proofs cite.
-pub mod Sealed
+-- What the proofs cite.
+pub mod Sealable

@@ -1,5 +1,5 @@
 -- A text of which only a part was read is never cleared (`part_turned_away`).
-use Rattle.std.specs.Prelude.{ℕ, zero, suc, ◌≡◌, refl, false, List, [], ◌++◌, take, ℤ, pos, negsuc}
+use Rattle.std.specs.Prelude.{ℕ, zero, suc, ◌≡◌, refl, false, List, [], ◌++◌, take, Option, Some, None}
 use Rattle.std.proofs.Common.{sym, ap, ◌∙◌, subst, true≢false, append_assoc}
 use Rattle.definitions.specs.Settle.{settle_input}
 use Rattle.text.specs.Reading.{failed_read}
@@ -16,12 +16,12 @@ unfolding text_of end_found
 part_broken zero reads e = record { start = []; same = refl }
 part_broken (suc turns) reads e = go (reads 0).got (reads 0).piece e (part_broken turns (later_reads reads))
   where
-    go : (got : ℤ) (piece : List ℕ) → end_before got (end_found turns (later_reads reads)) ≡ false
+    go : (got : Option ℕ) (piece : List ℕ) → end_before got (end_found turns (later_reads reads)) ≡ false
         → (end_found turns (later_reads reads) ≡ false → BreaksOff (text_of turns (later_reads reads)))
         → BreaksOff (text_before got piece (text_of turns (later_reads reads)))
-    go (negsuc k) piece f onward = record { start = []; same = refl }
-    go (pos zero) piece f onward = absurd (true≢false f)
-    go (pos (suc k)) piece f onward =
+    go None piece f onward = record { start = []; same = refl }
+    go (Some zero) piece f onward = absurd (true≢false f)
+    go (Some (suc k)) piece f onward =
         let later = onward f in
         record {
           start = take (suc k) piece ++ later.start;

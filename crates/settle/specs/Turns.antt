@@ -1,12 +1,12 @@
 -- What settle promises: what each answer of a read makes of the text so far, and what is printed for the text that some reads give.
-use Rattle.std.specs.Prelude.{ℕ, zero, suc, ◌≡◌, Bool, true, false, ◌⊎◌, List, [], ◌++◌, take, ℤ, pos, negsuc}
+use Rattle.std.specs.Prelude.{ℕ, zero, suc, ◌≡◌, Bool, true, false, ◌⊎◌, List, [], ◌++◌, take, ℤ, Option, Some, None}
+use Rattle.std.specs.declared.ops.ControlFlow.{ControlFlow}
+use Rattle.std.specs.declared.ops.ControlFlow.TheVariants.{Continue, Break}
 use Rattle.definitions.specs.Settle.{settle_text, unreadable_text, refused_text}
 use Rattle.plan.specs.Plan.{plan}
-use Rattle.stages.specs.declared.Input.{Input}
-use Rattle.stages.specs.Counting.{stage_input}
+use Rattle.stages.specs.Counting.{Input, stage_input}
+use Rattle.text.specs.declared.Reader.{Reader}
 use Rattle.text.specs.Reading.{Reading, read_so_far, start_reader, word_ended, fed, failed_read}
-use Rattle.settle.specs.declared.Turn.{Turn}
-use Rattle.settle.specs.declared.Turn.TheVariants.{More, Over}
 
 -- ---- One turn
 
@@ -23,30 +23,30 @@ left_by s = record { input = stage_input (word_ended s).reader.stage; numbers = 
 abbrev pub broken_off : Reading → Left
 broken_off s = left_by (fed s failed_read)
 
--- what a turn gives, and the numbers stored
+-- what a turn gives, the reader to go on from or the answer, and the numbers stored
 pub record Turned : Type 0 where
-  pub turn : Turn
+  pub turn : ControlFlow Input Reader
   pub numbers : List ℤ
 
 -- the answer is there
 abbrev pub text_over : Left → Turned
-text_over left = record { turn = Over left.input; numbers = left.numbers }
+text_over left = record { turn = Break left.input; numbers = left.numbers }
 
 -- the next turn goes on from here
 abbrev pub text_onward : Reading → Turned
-text_onward s = record { turn = More s.reader; numbers = s.numbers }
+text_onward s = record { turn = Continue s.reader; numbers = s.numbers }
 
--- an answer below 0: the read has failed; 0: the input has ended; any other: so many bytes at the start of the piece come next
-unfoldable pub turned : Reading → (got : ℤ) (piece : List ℕ) → Turned
-turned s (negsuc k) piece = text_over (broken_off s)
-turned s (pos zero) piece = text_over (left_by s)
-turned s (pos (suc k)) piece = text_onward (fed s (take (suc k) piece))
+-- no number: the read has failed; 0: the input has ended; any other: so many bytes at the start of the piece come next
+unfoldable pub turned : Reading → (got : Option ℕ) (piece : List ℕ) → Turned
+turned s None piece = text_over (broken_off s)
+turned s (Some zero) piece = text_over (left_by s)
+turned s (Some (suc k)) piece = text_onward (fed s (take (suc k) piece))
 
 -- ---- The text that the reads give
 
--- a read: what it answered, and what stood in the piece after it
+-- a read: how many bytes it gave, none where it failed, and what stood in the piece after it
 pub record ReadAnswer : Type 0 where
-  pub got : ℤ
+  pub got : Option ℕ
   pub piece : List ℕ
 
 -- the reads after the first, `reads 0`
@@ -54,10 +54,10 @@ abbrev pub later_reads : (ℕ → ReadAnswer) → (ℕ → ReadAnswer)
 later_reads reads i = reads (suc i)
 
 -- what a read adds to the text, with what the later reads give
-abbrev pub text_before : (got : ℤ) (piece rest : List ℕ) → List ℕ
-text_before (negsuc k) piece rest = failed_read
-text_before (pos zero) piece rest = []
-text_before (pos (suc k)) piece rest = take (suc k) piece ++ rest
+abbrev pub text_before : (got : Option ℕ) (piece rest : List ℕ) → List ℕ
+text_before None piece rest = failed_read
+text_before (Some zero) piece rest = []
+text_before (Some (suc k)) piece rest = take (suc k) piece ++ rest
 
 -- the text that reads in so many turns give: where the turns end before the text, its rest is not known
 unfoldable pub text_of : (turns : ℕ) → (ℕ → ReadAnswer) → List ℕ
@@ -65,10 +65,10 @@ text_of zero reads = failed_read
 text_of (suc turns) reads = text_before (reads 0).got (reads 0).piece (text_of turns (later_reads reads))
 
 -- whether a read has found the end of the input, and none failed before it
-abbrev pub end_before : (got : ℤ) (rest : Bool) → Bool
-end_before (negsuc k) rest = false
-end_before (pos zero) rest = true
-end_before (pos (suc k)) rest = rest
+abbrev pub end_before : (got : Option ℕ) (rest : Bool) → Bool
+end_before None rest = false
+end_before (Some zero) rest = true
+end_before (Some (suc k)) rest = rest
 
 -- whether one of so many reads has found the end of the input
 unfoldable pub end_found : (turns : ℕ) → (ℕ → ReadAnswer) → Bool

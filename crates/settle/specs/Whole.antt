@@ -1,18 +1,17 @@
 -- Turn by turn settle reads the text that the reads give (`turn_onward`, `turn_over`, `turns_over`), and prints what is to be printed for it (`prints_whole`).
-use Rattle.std.specs.Prelude.{ℕ, zero, suc, ◌≡◌, List, [], length, take, ℤ, pos, negsuc}
+use Rattle.std.specs.Prelude.{ℕ, zero, suc, ◌≡◌, List, [], length, take, ℤ, Option, Some, None}
+use Rattle.std.specs.declared.ops.ControlFlow.TheVariants.{Continue, Break}
 use Rattle.std.proofs.Common.{sym, ap, ◌∙◌, inl, inr, arith}
 use Rattle.definitions.specs.Answers.{Refusal, number_of, place_of}
 use Rattle.definitions.specs.Settle as settle
 use Rattle.definitions.specs.Settle.{input_text, settle_text, settle_input, refused_text}
 use Rattle.plan.specs.Plan.{plan}
-use Rattle.stages.specs.declared.Input.{Input}
 use Rattle.text.specs.declared.Reader.{Reader}
-use Rattle.stages.specs.Counting.{table_numbers, input_for}
+use Rattle.stages.specs.Counting.{table_numbers, Input, input_for}
 use Rattle.text.specs.Reading.{Reading, read_so_far, start_reader, fed}
 use Rattle.text.specs.Steps.{fed_append}
 use Rattle.text.specs.Texts.{reads}
 use Rattle.text.specs.Broken.{TurnedAway}
-use Rattle.settle.specs.declared.Turn.TheVariants.{More, Over}
 use Rattle.settle.specs.Turns.{left_by, broken_off, turned, ReadAnswer, text_before, text_of, read_limit, ReadWhole, NothingCleared, PrintsWhole}
 use Rattle.settle.specs.Parts.{part_turned_away}
 
@@ -37,17 +36,17 @@ read_first r rest zero = r
 read_first r rest (suc i) = rest i
 
 -- a turn that leads on
-more_fed : (s : Reading) (got : ℤ) (piece : List ℕ) (next : Reader) (stored : List ℤ) (rest : List ℕ) → (turned s got piece).turn ≡ More next
+more_fed : (s : Reading) (got : Option ℕ) (piece : List ℕ) (next : Reader) (stored : List ℤ) (rest : List ℕ) → Continue next ≡ (turned s got piece).turn
     → stored ≡ (turned s got piece).numbers → fed s (text_before got piece rest) ≡ fed (read_so_far next stored) rest
 unfolding turned
-more_fed s (negsuc k) piece next stored rest e f = let z : ◌≡◌ {A = ℕ} 0 1 = cc in absurd (omega arith)
-more_fed s (pos zero) piece next stored rest e f = let z : ◌≡◌ {A = ℕ} 0 1 = cc in absurd (omega arith)
-more_fed s (pos (suc k)) piece next stored rest e f =
+more_fed s None piece next stored rest e f = let z : ◌≡◌ {A = ℕ} 0 1 = cc in absurd (omega arith)
+more_fed s (Some zero) piece next stored rest e f = let z : ◌≡◌ {A = ℕ} 0 1 = cc in absurd (omega arith)
+more_fed s (Some (suc k)) piece next stored rest e f =
     let q : next ≡ (fed s (take (suc k) piece)).reader = cc in
     rw (q, f) (sym (fed_append (take (suc k) piece) rest s))
 
-pub turn_onward : (before : List ℤ) (reader next : Reader) (numbers stored : List ℤ) (turns left : ℕ) (got : ℤ) (piece : List ℕ) → SoFar before reader numbers turns
-    → turns ≡ suc left → (turned (read_so_far reader numbers) got piece).turn ≡ More next → stored ≡ (turned (read_so_far reader numbers) got piece).numbers
+pub turn_onward : (before : List ℤ) (reader next : Reader) (numbers stored : List ℤ) (turns left : ℕ) (got : Option ℕ) (piece : List ℕ) → SoFar before reader numbers turns
+    → turns ≡ suc left → Continue next ≡ (turned (read_so_far reader numbers) got piece).turn → stored ≡ (turned (read_so_far reader numbers) got piece).numbers
     → SoFar before next stored left
 unfolding text_of
 turn_onward before reader next numbers stored turns left got piece s t e f rest =
@@ -62,13 +61,13 @@ turn_onward before reader next numbers stored turns left got piece s t e f rest 
     }
 
 -- a turn that ends the text
-over_left : (s : Reading) (got : ℤ) (piece : List ℕ) (input : Input) (stored : List ℤ) (rest : List ℕ) → (turned s got piece).turn ≡ Over input
+over_left : (s : Reading) (got : Option ℕ) (piece : List ℕ) (input : Input) (stored : List ℤ) (rest : List ℕ) → Break input ≡ (turned s got piece).turn
     → stored ≡ (turned s got piece).numbers
     → (input ≡ (left_by (fed s (text_before got piece rest))).input) × (stored ≡ (left_by (fed s (text_before got piece rest))).numbers)
 unfolding fed turned
-over_left s (negsuc k) piece input stored rest e f = (cc, f)
-over_left s (pos zero) piece input stored rest e f = (cc, f)
-over_left s (pos (suc k)) piece input stored rest e f = let z : ◌≡◌ {A = ℕ} 0 1 = cc in absurd (omega arith)
+over_left s None piece input stored rest e f = (cc, f)
+over_left s (Some zero) piece input stored rest e f = (cc, f)
+over_left s (Some (suc k)) piece input stored rest e f = let z : ◌≡◌ {A = ℕ} 0 1 = cc in absurd (omega arith)
 
 -- what the text leaves is what it leaves from the start
 text_over_lem : (before : List ℤ) (reader : Reader) (numbers : List ℤ) (turns : ℕ) (rest : ℕ → ReadAnswer) (input : Input) (stored : List ℤ) → SoFar before reader numbers turns
@@ -82,8 +81,8 @@ text_over_lem before reader numbers turns rest input stored s e =
       stored = e.1 ∙ ap (λ (r : Reading). (left_by r).numbers) (sym led.same);
     }
 
-pub turn_over : (before : List ℤ) (reader : Reader) (numbers stored : List ℤ) (turns left : ℕ) (got : ℤ) (piece : List ℕ) (input : Input) → SoFar before reader numbers turns
-    → turns ≡ suc left → (turned (read_so_far reader numbers) got piece).turn ≡ Over input → stored ≡ (turned (read_so_far reader numbers) got piece).numbers
+pub turn_over : (before : List ℤ) (reader : Reader) (numbers stored : List ℤ) (turns left : ℕ) (got : Option ℕ) (piece : List ℕ) (input : Input) → SoFar before reader numbers turns
+    → turns ≡ suc left → Break input ≡ (turned (read_so_far reader numbers) got piece).turn → stored ≡ (turned (read_so_far reader numbers) got piece).numbers
     → ReadWhole before input stored
 unfolding text_of
 turn_over before reader numbers stored turns left got piece input s t e f =
@@ -97,7 +96,7 @@ pub turns_over : (before : List ℤ) (reader : Reader) (numbers stored : List �
     → ReadWhole before input stored
 unfolding text_of
 turns_over before reader numbers stored turns input s t e f =
-    text_over_lem before reader numbers turns (λ i. record { got = pos 0; piece = [] }) input stored s (rw t (e, f))
+    text_over_lem before reader numbers turns (λ i. record { got = Some 0; piece = [] }) input stored s (rw t (e, f))
 
 -- ---- Printing
 

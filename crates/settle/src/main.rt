@@ -3,92 +3,81 @@
 // is that of the text that some reads give, and `list_text` which bytes are to be printed for an answer.
 #![tactic(auto)]
 
-ghost use Rattle.std.specs.Prelude.{◌≡◌, take};
+ghost use Rattle.std.specs.Prelude.{◌≡◌, ◌≤◌, length, IfSome};
 ghost use Rattle.definitions.specs.Settle.{input_text};
-ghost use Rattle.gathering.specs.Counts.{IsPrefixLen};
 ghost use Rattle.plan.specs.Plan.{plan};
 ghost use Rattle.stages.specs.Counting.{input_for};
 ghost use Rattle.text.specs.Reading.{read_so_far};
 ghost use Rattle.settle.specs.Turns.{turned, ReadWhole, PrintsWhole};
 
 use definitions::Limits;
-use gathering::count;
 use listing::Listing;
 use settlement::settle;
 use stages::Input;
 use std::io;
 use std::io::Read;
+use std::ops::ControlFlow;
 use text::Reader;
 
 // The bytes that are read at once.
 const PIECE: usize = 4_096;
 
-// What a read answers at the end of the input.
-const END: isize = 0;
-
-// What a read leads to: more of the text is to be read, or the text is over.
-#[derive(Drop)]
-enum Turn {
-    More(Reader),
-    Over(Input),
-}
-
-// One turn: `got` is what a read answered, and its bytes stand at the start of piece. Below 0 it failed, and 0 is the end of the input.
-fn take_turn(reader: Reader, got: isize, piece: &[u8], numbers: &mut [i32; Reader::NUMBERS]) -> Turn
-    ensures value { result ≡ (turned (read_so_far reader numbers.old) got piece.now).turn }
-    ensures numbers_after { numbers.new ≡ (turned (read_so_far reader numbers.old) got piece.now).numbers }
+// One turn, by how many bytes a read put at the start of piece, all of it at most: 0 at the end of the input, none where it failed.
+// It leads on to the next turn's reader, or the text is over.
+fn take_turn(
+    reader: Reader,
+    read: Option<usize>,
+    piece: &[u8],
+    numbers: &mut [i32; Reader::NUMBERS],
+) -> ControlFlow<Input, Reader>
+    ensures value { result ≡ (turned (read_so_far reader numbers.old) read piece.now).turn }
+    ensures numbers_after { numbers.new ≡ (turned (read_so_far reader numbers.old) read piece.now).numbers }
 {
-    if got < 0 {
-        return Turn::Over(reader.break_off(numbers));
-    }
-    if got == END {
-        return Turn::Over(reader.finish(numbers));
-    }
-    let size = count(got, piece);
-    Turn::More(reader.feed(&piece[..size], numbers))
-}
-
-// What a read answered: how many bytes it put at the start of piece, or -1 where it failed.
-fn read_piece<R: Read>(source: &mut R, piece: &mut [u8; PIECE]) -> isize {
-    match source.read(piece) {
-        Ok(size) => size as isize,
-        Err(_) => -1,
+    match read {
+        None => ControlFlow::Break(reader.break_off(numbers)),
+        Some(0) => ControlFlow::Break(reader.finish(numbers)),
+        Some(size) => {
+            let end = size.min(piece.len());
+            ControlFlow::Continue(reader.feed(&piece[..end], numbers))
+        }
     }
 }
 
 // Reads turn by turn until the text is over.
-// A proved loop has to end, and nothing says that an input does. So the loop counts its turns down, from a number that no run uses up;
+// A proved loop has to end, and nothing says that an input does. So there is a number of turns that no run uses up;
 // a text that went on longer would be broken off there.
 fn read_text<R: Read>(source: &mut R, numbers: &mut [i32; Reader::NUMBERS]) -> Input
     ensures { ReadWhole numbers.old result numbers.new }
 {
     let mut reader = Reader::start();
-    let mut turns = u64::MAX;
-    while turns > 0 {
+    for _ in 0..u64::MAX {
         let mut piece = [0u8; PIECE];
-        let got = read_piece(source, &mut piece);
-        match take_turn(reader, got, &piece, numbers) {
-            Turn::More(next) => reader = next,
-            Turn::Over(input) => return input,
+        let read = source.read(&mut piece).ok();
+        match take_turn(reader, read, &piece, numbers) {
+            ControlFlow::Continue(next) => reader = next,
+            ControlFlow::Break(input) => return input,
         }
-        turns -= 1;
     }
     reader.break_off(numbers)
 }
 
-// Writes, at the start of out, what is to be printed for the text that was read, and gives its size.
-fn list_text(input: Input, numbers: &[i32; Reader::NUMBERS], out: &mut [u8; Listing::ROOM]) -> usize
-    ensures text { take result out.new ≡ input_text plan (input_for input numbers.now) }
-    ensures counted { IsPrefixLen result out.new }
+// What is to be printed for the text that was read, written at the start of out.
+fn list_text<'a>(
+    input: Input,
+    numbers: &[i32; Reader::NUMBERS],
+    out: &'a mut [u8; Listing::ROOM],
+) -> &'a [u8]
+    ensures { result.now ≡ input_text plan (input_for input numbers.now) }
 {
     let mut sheet = [0u32; Limits::CELLS];
-    settle(input, numbers, &mut sheet, out)
+    let size = settle(input, numbers, &mut sheet, out);
+    &out[..size]
 }
 
 // Both: reads the text and writes what is to be printed for it.
-fn settled<R: Read>(source: &mut R, out: &mut [u8; Listing::ROOM]) -> usize
-    ensures text { PrintsWhole (take result out.new) }
-    ensures counted { IsPrefixLen result out.new }
+// With no heap, its numbers and what is printed are lent arrays that hold the longest.
+fn settled<'a, R: Read>(source: &mut R, out: &'a mut [u8; Listing::ROOM]) -> &'a [u8]
+    ensures { PrintsWhole result.now }
 {
     let mut numbers = [0i32; Reader::NUMBERS];
     let input = read_text(source, &mut numbers);
@@ -97,6 +86,5 @@ fn settled<R: Read>(source: &mut R, out: &mut [u8; Listing::ROOM]) -> usize
 
 fn main(rt: HostRuntime) -> io::Result<()> {
     let mut out = [0u8; Listing::ROOM];
-    let size = settled(&mut rt.stdin(), &mut out);
-    rt.write_all(&out[..size])
+    rt.write_all(settled(&mut rt.stdin(), &mut out))
 }

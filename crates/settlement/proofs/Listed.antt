@@ -1,10 +1,6 @@
 -- A sheet that opening does not refuse: its results are those defined, and there is a listing of them wherever there is room.
-use Prim.Native.Nat.{ℕ}
-use mathlib.Core.Path.{◌≡◌, refl, sym, ap, ◌∙◌}
-use mathlib.Core.List.{List}
-use lib.Dec.{leb}
-use lib.IntN.{ℤ}
-use lib.ListN.{length}
+use Rattle.std.specs.Prelude.{ℕ, ◌≡◌, refl, List, leb, length, ℤ}
+use Rattle.std.proofs.Common.{sym, ap, ◌∙◌}
 use Rattle.definitions.specs.Answers.{Refusal, none, unless}
 use Rattle.definitions.specs.Calls.{open_refusal, opened_results, open_slice}
 use Rattle.definitions.specs.Settle.{listing}

@@ -1,12 +1,7 @@
 -- What too little room leaves, the text of a refused book, and what an accepted one leaves.
-use Prim.Native.Nat.{ℕ, ◌≤◌, ◌<◌}
-use mathlib.Core.Path.{◌≡◌, refl, sym, ap, ap₂, ◌∙◌}
-use mathlib.Core.Bool.{Bool, true, false, cond, true≢false}
-use mathlib.Core.List.{List}
-use lib.Dec.{leb}
-use lib.ListN.{length, take}
-use lib.IntN.{ℤ}
-use borrow.Author.Tests.{le-leb, lt-leb}
+use Rattle.std.specs.Prelude.{ℕ, ◌≤◌, ◌<◌, ◌≡◌, refl, false, List, leb, length, ℤ}
+use Rattle.std.proofs.Common.{sym, ap, ap₂, ◌∙◌, true≢false, le-leb}
+use Rattle.std.proofs.lemmas.Bool.{lt-leb}
 use Rattle.definitions.specs.Limits.{cell_count}
 use Rattle.definitions.specs.Book.{Book}
 use Rattle.definitions.specs.Sheet.{result_count}
@@ -21,7 +16,6 @@ use Rattle.listing.specs.Text.{text_room, text_size, text_slice, refused_size, r
 use Rattle.plan.specs.Plan.{plan}
 use Rattle.settlement.specs.Opens.{plan_opens}
 use Rattle.settlement.specs.Settled.{settled_text, settled_size, settled_slice, settled_sheet}
-use Rattle.settlement.specs.WholeText.{settled_counts}
 
 -- ---- One text, written as it is defined
 
@@ -34,12 +28,12 @@ module _ (input : Input) (cells : ℕ) (text out : List ℕ) (same : text ≡ se
   unfolding settled_slice
   slice_of = ap (λ (l : List ℕ). text_slice (leb text_room (length out)) l out) same
 
-module _ (i : Input) (a : ℕ) (j : Input) (b : ℕ) (out : List ℕ) (same : settled_text plan i a ≡ settled_text plan j b) where
-  pub same_size : settled_size plan i a (length out) ≡ settled_size plan j b (length out)
+module _ (i j : Input) (cells : ℕ) (out : List ℕ) (same : settled_text plan i cells ≡ settled_text plan j cells) where
+  pub same_size : settled_size plan i cells (length out) ≡ settled_size plan j cells (length out)
   unfolding settled_size
   same_size = ap (text_size (leb text_room (length out))) same
 
-  pub same_slice : settled_slice plan i a out ≡ settled_slice plan j b out
+  pub same_slice : settled_slice plan i cells out ≡ settled_slice plan j cells out
   unfolding settled_slice
   same_slice = ap (λ (l : List ℕ). text_slice (leb text_room (length out)) l out) same
 
@@ -53,36 +47,32 @@ module _ (B : Book) (cells : ℕ) (sheet out : List ℕ) (short : length out < t
 
 -- ---- A refusal
 
-module _ (r : Refusal) (number place : ℕ) (out : List ℕ) (k : number ≡ number_of r) (p : place ≡ place_of r) where
-  text : refused_text number place ≡ settled_text plan (refused r) 0
+module _ (r : Refusal) (cells number place : ℕ) (out : List ℕ) (k : number ≡ number_of r) (p : place ≡ place_of r) where
+  text : refused_text number place ≡ settled_text plan (refused r) cells
   text = ap₂ refused_text k p
 
-  pub verdict_size : refused_size number place (length out) ≡ settled_size plan (refused r) 0 (length out)
+  pub refusal_size : refused_size number place (length out) ≡ settled_size plan (refused r) cells (length out)
   unfolding refused_size
-  verdict_size = size_of (refused r) 0 (refused_text number place) out text
+  refusal_size = size_of (refused r) cells (refused_text number place) out text
 
-  pub verdict_slice : refused_slice number place out ≡ settled_slice plan (refused r) 0 out
+  pub refusal_slice : refused_slice number place out ≡ settled_slice plan (refused r) cells out
   unfolding refused_slice
-  verdict_slice = slice_of (refused r) 0 (refused_text number place) out text
+  refusal_slice = slice_of (refused r) cells (refused_text number place) out text
 
 -- by its number and place
 book_refused : (P : Plan) (B : Book) (r : Refusal) → is_none r ≡ false → book_text P B r ≡ refused_text (number_of r) (place_of r)
 book_refused P B none e = absurd (true≢false e)
 book_refused P B (refuse number place) e = refl
 
-pub refused_text_lem : (B : Book) (r : Refusal) (cells any : ℕ) → r ≡ seal_refusal B cells → is_none (seal_refusal B cells) ≡ false
-    → settled_text plan (refused r) any ≡ settled_text plan (readable B) cells
-refused_text_lem B r cells any e refuses =
+pub refused_text_lem : (B : Book) (r : Refusal) (cells : ℕ) → r ≡ seal_refusal B cells → is_none (seal_refusal B cells) ≡ false
+    → settled_text plan (refused r) cells ≡ settled_text plan (readable B) cells
+refused_text_lem B r cells e refuses =
     ap (λ (q : Refusal). refused_text (number_of q) (place_of q)) e ∙ sym (book_refused plan B (seal_refusal B cells) refuses)
 
--- a refused book leaves the sheet, whatever room there is
-pub sheet_kept : (B : Book) (room : ℕ) (sheet : List ℕ) → is_none (seal_refusal B (length sheet)) ≡ false → sheet ≡ settled_sheet plan (readable B) room sheet
+-- a refused book leaves the sheet
+pub sheet_left : (B : Book) (sheet : List ℕ) → is_none (seal_refusal B (length sheet)) ≡ false → sheet ≡ clear_sheet plan B sheet
 unfolding clear_sheet
-sheet_kept B room sheet refuses = go (leb text_room room)
-  where
-    go : (t : Bool) → sheet ≡ cond t (clear_sheet plan B sheet) sheet
-    go true = sym (unless_refused (seal_refusal B (length sheet)) (plan_run plan B) sheet refuses)
-    go false = refl
+sheet_left B sheet refuses = sym (unless_refused (seal_refusal B (length sheet)) (plan_run plan B) sheet refuses)
 
 -- with room, the sheet is the one that clearing leaves
 pub sheet_cleared : (B : Book) (room : ℕ) (sheet left : List ℕ) → text_room ≤ room → left ≡ clear_sheet plan B sheet → left ≡ settled_sheet plan (readable B) room sheet
@@ -106,17 +96,11 @@ module _ (B : Book) (sheet left : List ℕ) (accepted : seal_refusal B (length s
   unfolding clear_sheet
   ran = cleared ∙ ap (λ (r : Refusal). unless r (plan_run plan B) sheet) accepted
 
-  pub opens : open_refusal B.n B.m left (result_count B.n B.m) ≡ none
-  opens = ap (λ (s : List ℕ). open_refusal B.n B.m s (result_count B.n B.m)) ran ∙ plan_opens B book_accepted
+  -- by the counts that were judged
+  module _ (n m : ℕ) (same : (n ≡ B.n) × (m ≡ B.m)) where
+    pub opens : open_refusal n m left (result_count n m) ≡ none
+    opens = rw (same.0, same.1) (ap (λ (s : List ℕ). open_refusal B.n B.m s (result_count B.n B.m)) ran ∙ plan_opens B book_accepted)
 
-  -- with the welfare that clearing gave
-  pub accepted_text : (w : ℤ) → w ≡ clear_welfare plan B (length sheet) → listing B.n B.m (opened_results B.n B.m left) w ≡ settled_text plan (readable B) (length sheet)
-  accepted_text w q = rw (ran, q, accepted, lent) refl
-
--- ---- The bytes given are counted
-
-pub counted : {C : Type 0} {r : ℕ} {after : List ℕ} (input : Input) (cells : ℕ) (out : List ℕ)
-    → (r ≡ settled_size plan input cells (length out)) × (C × (after ≡ settled_slice plan input cells out))
-    → (r ≡ settled_size plan input cells (length out))
-    × (C × ((after ≡ settled_slice plan input cells out) × ((r ≤ length after) × (r ≡ length (take r after)))))
-counted {r = r} {after = after} input cells out h = (h.0, (h.1.0, (h.1.1, settled_counts plan input cells r out after h.0 h.1.1)))
+    -- with the welfare that clearing gave
+    pub accepted_text : (w : ℤ) → w ≡ clear_welfare plan B (length sheet) → listing n m (opened_results n m left) w ≡ settled_text plan (readable B) (length sheet)
+    accepted_text w q = rw (same.0, same.1, ran, q, accepted, lent) refl

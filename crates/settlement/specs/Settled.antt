@@ -1,7 +1,7 @@
 -- What settling gives and leaves for every input: the text at the start of the slice lent for it, and the sheet that clearing leaves.
 use Rattle.std.specs.Prelude.{ℕ, ◌*◌, ◌≤◌, ◌≡◌, cond, List, leb, length, take, drop, ℤ}
 use Rattle.definitions.specs.Limits.{bid_numbers, cell_count}
-use Rattle.definitions.specs.Book.{book}
+use Rattle.definitions.specs.Book.{Book, book}
 use Rattle.definitions.specs.Answers.{number_of, place_of}
 use Rattle.definitions.specs.Calls.{seal_refusal}
 use Rattle.definitions.specs.Plan.{Plan, over}
@@ -9,9 +9,13 @@ use Rattle.definitions.specs.Outcome.{clear_sheet}
 use Rattle.definitions.specs.Settle.{Input, unreadable, refused, readable, unreadable_text, refused_text, book_text, settle_text}
 use Rattle.listing.specs.Text.{text_room, text_size, text_slice}
 
--- the tables of a ready text: first the numbers of the bids, then those of the capacities
+-- the book of the tables of a ready text: first the numbers of the bids, then those of the capacities
+abbrev pub book_at : (n m : ℕ) → List ℤ → Book
+book_at n m numbers = book n m (take (bid_numbers * n) numbers) (take (m * m) (drop (bid_numbers * n) numbers))
+
+-- and the text, by it
 abbrev pub tables_of : (n m : ℕ) → List ℤ → Input
-tables_of n m numbers = readable (book n m (take (bid_numbers * n) numbers) (take (m * m) (drop (bid_numbers * n) numbers)))
+tables_of n m numbers = readable (book_at n m numbers)
 
 -- the text, by the number of cells lent; with 4,096 of them it is the definition's (`printed_text`)
 abbrev pub settled_text : Plan → Input → (cells : ℕ) → List ℕ

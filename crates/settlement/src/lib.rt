@@ -1,108 +1,101 @@
 // From a text to the text that settle prints: clears the book, opens its results and lists them, or names the refusal.
 // specs/ say what is printed and left for every input, and that this is what document 01 says. Where out has less room than a listing may
-// need, every call here gives 0 and leaves sheet and out as they are.
+// need, every call here gives 0, the size of nothing, and leaves sheet and out as they are.
 #![tactic(auto)]
 
-ghost use Rattle.std.specs.Prelude.{◌≤◌, ◌≡◌, length, take, leb};
-ghost use Rattle.definitions.specs.Answers.{refusal_of, none};
-ghost use Rattle.definitions.specs.Book.{book};
-ghost use Rattle.definitions.specs.Calls.{open_refusal, opened_results};
-ghost use Rattle.definitions.specs.Settle.{listing, readable, refused, settle_input};
+ghost use Rattle.std.specs.Prelude.{◌≤◌, ◌≡◌, ℕ, List, length, take, leb, ℤ, IfOk, Err};
+ghost use Rattle.definitions.specs.Answers.{none, refusal_of};
+ghost use Rattle.definitions.specs.Calls.{seal_refusal, open_refusal, opened_results};
+ghost use Rattle.definitions.specs.Outcome.{clear_sheet, clear_welfare};
+ghost use Rattle.definitions.specs.Settle.{listing, settle_input};
 ghost use Rattle.definitions.specs.Sheet.{result_count};
 ghost use Rattle.listing.specs.Text.{text_room, text_size, text_slice};
 ghost use Rattle.plan.specs.Plan.{plan};
-ghost use Rattle.stages.specs.Counting.{table_numbers, input_for};
-ghost use Rattle.settlement.specs.Settled.{settled_size, settled_slice, settled_sheet, tables_of, Prints};
+ghost use Rattle.stages.specs.Counting.{input_for};
+ghost use Rattle.settlement.specs.Settled.{settled_size, settled_slice, settled_sheet, book_at, tables_of, Prints};
 
-use answers::{is_accepted, number, place};
 use clearing::clear;
-use definitions::{Limits, Verdict};
+use definitions::{Counts, LentBook, Limits, Reason};
 use judging::judge_counts;
 use listing::{Listing, write_listing, write_refused, write_unreadable};
 use opening::open;
-use stages::Input;
+use stages::{Input, Tables, Unsettled};
 use text::{Reader, read};
 
-// How many results a book has at most.
+// The bytes that are asked for before a sheet is touched.
+const ROOM: usize = Listing::ROOM;
+
+// How many results a book has at most: with no heap there is a place for each of them.
 const RESULTS: usize = Limits::BIDS
     + Limits::POOLS * Limits::POOLS
     + Limits::POOL_RESULTS * Limits::POOLS;
 
-// Opens the results that a sheet holds and lists them with the welfare.
-fn list_results(
-    n: usize,
-    m: usize,
-    welfare: i64,
-    sheet: &[u32],
-    results: &mut [i32],
-    out: &mut [u8],
-) -> usize
-    requires { open_refusal n m sheet.now (length results.old) ≡ none }
-    ensures size { result ≡ text_size (leb text_room (length out.old)) (listing n m (opened_results n m sheet.now) welfare) }
-    ensures results { results.new ≡ opened_results n m sheet.now }
-    ensures bytes { out.new ≡ text_slice (leb text_room (length out.old)) (listing n m (opened_results n m sheet.now) welfare) out.old }
+// Why a text has no listing: a refusal by its number and place, or that it is unreadable.
+fn write_why(why: Unsettled, out: &mut [u8]) -> usize
+    ensures size { (numbers : List ℤ) (cells : ℕ) → result ≡ settled_size plan (input_for (Err why) numbers) cells (length out.old) }
+    ensures bytes { (numbers : List ℤ) (cells : ℕ) → out.new ≡ settled_slice plan (input_for (Err why) numbers) cells out.old }
 {
-    open(n, m, sheet, results);
-    write_listing(n, m, results, welfare, out)
+    match why {
+        Unsettled::Unreadable => write_unreadable(out),
+        Unsettled::Refused(reason) => write_refused(reason.number(), reason.place(), out),
+    }
 }
 
-// The same with results of its own.
-fn list_sheet(n: usize, m: usize, welfare: i64, sheet: &[u32], out: &mut [u8]) -> usize
-    requires { open_refusal n m sheet.now (result_count n m) ≡ none }
-    ensures size { result ≡ text_size (leb text_room (length out.old)) (listing n m (opened_results n m sheet.now) welfare) }
-    ensures bytes { out.new ≡ text_slice (leb text_room (length out.old)) (listing n m (opened_results n m sheet.now) welfare) out.old }
+// Opens the results that a sheet holds, one that opening does not refuse, and lists them with the welfare.
+fn list_sheet(counts: Counts, welfare: i64, sheet: &[u32], out: &mut [u8]) -> usize
+    requires { open_refusal counts.n counts.m sheet.now (result_count counts.n counts.m) ≡ none }
+    ensures size { result ≡ text_size (leb text_room (length out.old)) (listing counts.n counts.m (opened_results counts.n counts.m sheet.now) welfare) }
+    ensures bytes { out.new ≡ text_slice (leb text_room (length out.old)) (listing counts.n counts.m (opened_results counts.n counts.m sheet.now) welfare) out.old }
 {
-    let mut results = [0i32; RESULTS];
-    let count = n + m * m + Limits::POOL_RESULTS * m;
-    list_results(n, m, welfare, sheet, &mut results[..count], out)
+    let mut numbers = [0; RESULTS];
+    let results = &mut numbers[..counts.results()];
+    open(counts.n, counts.m, sheet, results).unwrap();
+    write_listing(counts.n, counts.m, results, welfare, out)
 }
 
-// A refusal by its number and place.
-fn write_verdict(verdict: Verdict, out: &mut [u8]) -> usize
-    ensures size { result ≡ settled_size plan (refused (refusal_of verdict)) 0 (length out.old) }
-    ensures bytes { out.new ≡ settled_slice plan (refused (refusal_of verdict)) 0 out.old }
+// Clears the book of the tables that a text gave, first the numbers of the bids, then those of the capacities.
+fn clear_tables(
+    tables: Tables,
+    numbers: &[i32; Reader::NUMBERS],
+    sheet: &mut [u32],
+) -> Result<(Counts, i64), Reason>
+    ensures refusal { refusal_of result ≡ seal_refusal (book_at tables.n tables.m numbers.now) (length sheet.old) }
+    ensures counts { IfOk result (λ given. (given.0.n ≡ tables.n) × (given.0.m ≡ tables.m)) }
+    ensures welfare { IfOk result (λ given. given.1 ≡ clear_welfare plan (book_at tables.n tables.m numbers.now) (length sheet.old)) }
+    ensures cells { sheet.new ≡ clear_sheet plan (book_at tables.n tables.m numbers.now) sheet.old }
 {
-    write_refused(number(verdict), place(verdict), out)
+    let counts = judge_counts(tables.n, tables.m)?;
+    let bids = counts.bid_numbers();
+    let all = bids + counts.lines();
+    let book = LentBook {
+        n: counts.n,
+        m: counts.m,
+        bids: &numbers[..bids],
+        capacities: &numbers[bids..all],
+    };
+    let cleared = clear(&book, sheet)?;
+    Ok((counts, cleared.welfare))
 }
 
-// Clears a book on the sheet lent and writes the listing of its results, or its refusal, at the start of out.
-fn settle_book(
-    n: usize,
-    m: usize,
-    bids: &[i32],
-    capacities: &[i32],
+// Clears the book on the sheet lent and writes the listing of its results, or its refusal, at the start of out. The two are lent apart, since
+// one call takes the sheet and another out.
+fn settle_tables(
+    tables: Tables,
+    numbers: &[i32; Reader::NUMBERS],
     sheet: &mut [u32],
     out: &mut [u8],
 ) -> usize
-    ensures size { result ≡ settled_size plan (readable (book n m bids.now capacities.now)) (length sheet.old) (length out.old) }
-    ensures cells { sheet.new ≡ settled_sheet plan (readable (book n m bids.now capacities.now)) (length out.old) sheet.old }
-    ensures bytes { out.new ≡ settled_slice plan (readable (book n m bids.now capacities.now)) (length sheet.old) out.old }
+    ensures size { result ≡ settled_size plan (tables_of tables.n tables.m numbers.now) (length sheet.old) (length out.old) }
+    ensures cells { sheet.new ≡ settled_sheet plan (tables_of tables.n tables.m numbers.now) (length out.old) sheet.old }
+    ensures bytes { out.new ≡ settled_slice plan (tables_of tables.n tables.m numbers.now) (length sheet.old) out.old }
 {
-    if out.len() < Listing::ROOM {
+    if out.len() < ROOM {
         return 0;
     }
-    let cleared = clear(n, m, bids, capacities, sheet);
-    let verdict = cleared.verdict;
-    if !is_accepted(verdict) {
-        return write_verdict(verdict, out);
+    match clear_tables(tables, numbers, sheet) {
+        Ok((counts, welfare)) => list_sheet(counts, welfare, sheet, out),
+        Err(reason) => write_why(Unsettled::Refused(reason), out),
     }
-    list_sheet(n, m, cleared.welfare, sheet, out)
-}
-
-// The same of the tables that a text gave: first the numbers of the bids, then those of the capacities.
-fn settle_tables(n: usize, m: usize, numbers: &[i32], sheet: &mut [u32], out: &mut [u8]) -> usize
-    requires { length numbers.now ≡ table_numbers }
-    ensures size { result ≡ settled_size plan (tables_of n m numbers.now) (length sheet.old) (length out.old) }
-    ensures cells { sheet.new ≡ settled_sheet plan (tables_of n m numbers.now) (length out.old) sheet.old }
-    ensures bytes { out.new ≡ settled_slice plan (tables_of n m numbers.now) (length sheet.old) out.old }
-{
-    let by_counts = judge_counts(n, m);
-    if !is_accepted(by_counts) {
-        return write_verdict(by_counts, out);
-    }
-    let bids = Limits::BID_NUMBERS * n;
-    let all = bids + m * m;
-    settle_book(n, m, &numbers[..bids], &numbers[bids..all], sheet, out)
 }
 
 // Writes, at the start of out, what settle prints for the text that was read, and gives its size. The sheet may hold anything.
@@ -118,13 +111,12 @@ pub fn settle(
     ensures counted { (result ≤ length out.new) × (result ≡ length (take result out.new)) }
 {
     match input {
-        Input::Unreadable => write_unreadable(out),
-        Input::Refused(verdict) => write_verdict(verdict, out),
-        Input::Ready { n, m } => settle_tables(n, m, numbers, sheet, out),
+        Ok(tables) => settle_tables(tables, numbers, sheet, out),
+        Err(why) => write_why(why, out),
     }
 }
 
-// The same of a whole text: reads it and settles what it is.
+// The same of a whole text: reads it and settles what it is. With no heap there is a place for each number of the longest tables.
 pub fn settle_text(text: &[u8], sheet: &mut [u32], out: &mut [u8]) -> usize
     ensures size { result ≡ settled_size plan (settle_input text.now) (length sheet.old) (length out.old) }
     ensures cells { sheet.new ≡ settled_sheet plan (settle_input text.now) (length out.old) sheet.old }
@@ -132,7 +124,7 @@ pub fn settle_text(text: &[u8], sheet: &mut [u32], out: &mut [u8]) -> usize
     ensures printed { Prints plan text.now (length sheet.old) out.old result out.new }
     ensures counted { (result ≤ length out.new) × (result ≡ length (take result out.new)) }
 {
-    let mut numbers = [0i32; Reader::NUMBERS];
+    let mut numbers = [0; Reader::NUMBERS];
     let input = read(text, &mut numbers);
     settle(input, &numbers, sheet, out)
 }

@@ -1,21 +1,20 @@
 -- What a text is by the words that are left of it, stage by stage. Its theorems: one word more (`word_taken`), and the end of the text (`text_ended`).
-use Prim.{Unit, tt}
-use Rattle.std.specs.Prelude.{ℕ, ◌+◌, ◌*◌, ◌≤◌, ◌<◌, ◌≡◌, refl, Bool, true, false, List, [], ◌∷◌, ◌++◌, ltb, eqb, length, take, drop, set, ℤ, pos, negsuc}
+use Rattle.std.specs.Prelude.{ℕ, ◌+◌, ◌*◌, ◌≤◌, ◌<◌, ◌≡◌, refl, Bool, true, false, List, [], ◌∷◌, ◌++◌, ltb, eqb, length, take, drop, set, ℤ, pos, negsuc, None, Ok, Err}
+use Rattle.std.specs.declared.result.Result.{Result}
 use Rattle.std.proofs.Common.{sym, ap, ◌∙◌, append-nil, arith, add-one, mul-le-mul_right, length-append, length-set, length-take-le, take-take, take-add, drop_at, take-suc-set, ltb-true, ltb-false, eqb-true, lt-ltb, le-ltb, ne_eqb}
 use Rattle.std.proofs.Math.Seq.{append_snoc}
 use Rattle.std.specs.Int.Signed.{lt_z}
 use Rattle.std.proofs.lemmas.Bool.{eqb-false}
-use Rattle.definitions.specs.declared.Verdict.TheVariants.{BidCount, PoolCount}
+use Rattle.definitions.specs.declared.Reason.{Reason}
+use Rattle.definitions.specs.declared.Reason.TheVariants.{BidCount, PoolCount}
 use Rattle.definitions.specs.Limits.{bid_limit, pool_limit, bid_numbers}
-use Rattle.definitions.specs.Answers.{Refusal, none, refuse, refusal_of}
+use Rattle.definitions.specs.Answers.{Refusal, none, refuse, stated}
 use Rattle.definitions.specs.Calls.{counts_refusal}
 use Rattle.definitions.specs.Settle.{Whole, no_number, whole, Numbers, no_numbers, numbers, prepend, whole_of, word_numbers, tables, after_counts, with_counts, input_of, unreadable, refused}
 use Rattle.definitions.specs.Settle as settle
-use Rattle.stages.specs.declared.Stage.{Stage}
 use Rattle.stages.specs.declared.Stage.TheVariants as stage
-use Rattle.stages.specs.declared.Counts.{Counts}
-use Rattle.stages.specs.declared.Counts.TheVariants as counts
-use Rattle.stages.specs.Counting.{table_numbers, called_for, begun, taken_by, place_for, stored_at, stage_input, input_for}
+use Rattle.stages.specs.declared.Unsettled.TheVariants.{Unreadable, Refused}
+use Rattle.stages.specs.Counting.{table_numbers, Progress, called_for, begun, taken_by, place_for, stored_at, stage_input, input_for}
 use Rattle.stages.specs.Values.{ended_for}
 
 -- how many numbers the tables have
@@ -29,14 +28,14 @@ Passed n m = (n ≤ bid_limit) × (0 < m) × (m ≤ pool_limit)
 pub called_fits : (n m : ℕ) → Passed n m → called n m ≤ table_numbers
 called_fits n m p = omega (arith, p.0, p.1, p.2, mul-le-mul_right m p.2)
 
-counts_passed : (n m : ℕ) → Passed n m → called_for n m ≡ counts.Numbers (called n m)
+counts_passed : (n m : ℕ) → Passed n m → called_for n m ≡ Ok (called n m)
 counts_passed n m p = rw (le-ltb bid_limit n p.0, ne_eqb m 0 (omega arith), le-ltb pool_limit m p.2) refl
 
 -- the counts pass, or n or m is refused
-pub data Counted (n m : ℕ) : Counts → Refusal → Type 0 where
-  pass : Passed n m → Counted n m (counts.Numbers (called n m)) none
-  bids : Counted n m (counts.Faulty BidCount) (refuse 1 0)
-  pools : Counted n m (counts.Faulty PoolCount) (refuse 2 0)
+pub data Counted (n m : ℕ) : Result ℕ Reason → Refusal → Type 0 where
+  pass : Passed n m → Counted n m (Ok (called n m)) none
+  bids : Counted n m (Err BidCount) (refuse 1 0)
+  pools : Counted n m (Err PoolCount) (refuse 2 0)
 
 counted : (n m : ℕ) → Counted n m (called_for n m) (counts_refusal n m)
 counted n m = go (ltb bid_limit n) refl (eqb m 0) refl (ltb pool_limit m) refl
@@ -52,12 +51,11 @@ counted n m = go (ltb bid_limit n) refl (eqb m 0) refl (ltb pool_limit m) refl
         rw (e, f, g) (pass (omega arith, omega arith, omega arith))
 
 -- in every stage that a text leads to: the counts pass, and no more numbers are stored than called for
-abbrev pub Held : Stage → Type 0
-Held stage.First = Unit {0}
-Held (stage.Second n) = Unit {0}
-Held (stage.Tables n m read) = Passed n m × (read ≤ called n m)
-Held stage.Unreadable = Unit {0}
-Held (stage.Refused verdict) = Unit {0}
+abbrev pub Held : Progress → Type 0
+Held (Ok stage.First) = Unit {0}
+Held (Ok (stage.Second n)) = Unit {0}
+Held (Ok (stage.Tables n m read)) = Passed n m × (read ≤ called n m)
+Held (Err why) = Unit {0}
 
 -- numbers after some that are stored
 abbrev pub after : List ℤ → Numbers → Numbers
@@ -70,12 +68,12 @@ second_count n [] = unreadable
 second_count n (word ∷ words) = with_counts (whole (pos n)) (whole_of word) words
 
 -- what the text is, if these words are left
-abbrev pub continued : Stage → List ℤ → List (List ℕ) → settle.Input
-continued stage.First stored words = input_of words
-continued (stage.Second n) stored words = second_count n words
-continued (stage.Tables n m read) stored words = tables n m (after (take read stored) (word_numbers words))
-continued stage.Unreadable stored words = unreadable
-continued (stage.Refused verdict) stored words = refused (refusal_of verdict)
+abbrev pub continued : Progress → List ℤ → List (List ℕ) → settle.Input
+continued (Ok stage.First) stored words = input_of words
+continued (Ok (stage.Second n)) stored words = second_count n words
+continued (Ok (stage.Tables n m read)) stored words = tables n m (after (take read stored) (word_numbers words))
+continued (Err Unreadable) stored words = unreadable
+continued (Err (Refused reason)) stored words = refused (stated reason)
 
 -- ---- The first count
 
@@ -86,7 +84,7 @@ negative_first : (n : ℕ) (m : Whole) (words : List (List ℕ)) → with_counts
 negative_first n no_number words = refl
 negative_first n (whole z) words = refl
 
-first_count : (word : List ℕ) (k : Whole) (stored : List ℤ) (words : List (List ℕ)) → whole_of word ≡ k → input_of (word ∷ words) ≡ continued (taken_by stage.First (ended_for k)) stored words
+first_count : (word : List ℕ) (k : Whole) (stored : List ℤ) (words : List (List ℕ)) → whole_of word ≡ k → input_of (word ∷ words) ≡ continued (taken_by (Ok stage.First) (ended_for k)) stored words
 first_count word no_number stored [] e = refl
 first_count word no_number stored (next ∷ words) e = rw e refl
 first_count word (whole (pos n)) stored [] e = rw (no_sign n) refl
@@ -103,12 +101,12 @@ after_none (numbers zs) = refl
 counts_read : (n m : ℕ) (stored : List ℤ) (words : List (List ℕ)) → after_counts n m (counts_refusal n m) words ≡ continued (begun n m (called_for n m)) stored words
 counts_read n m stored words = go (counted n m)
   where
-    go : {c : Counts} {r : Refusal} → Counted n m c r → after_counts n m r words ≡ continued (begun n m c) stored words
+    go : {c : Result ℕ Reason} {r : Refusal} → Counted n m c r → after_counts n m r words ≡ continued (begun n m c) stored words
     go (pass p) = ap (tables n m) (sym (after_none (word_numbers words)))
     go bids = refl
     go pools = refl
 
-second_count_lem : (n : ℕ) (k : Whole) (stored : List ℤ) (words : List (List ℕ)) → with_counts (whole (pos n)) k words ≡ continued (taken_by (stage.Second n) (ended_for k)) stored words
+second_count_lem : (n : ℕ) (k : Whole) (stored : List ℤ) (words : List (List ℕ)) → with_counts (whole (pos n)) k words ≡ continued (taken_by (Ok (stage.Second n)) (ended_for k)) stored words
 second_count_lem n no_number stored words = refl
 second_count_lem n (whole (pos m)) stored words = rw (no_sign m) (counts_read n m stored words)
 second_count_lem n (whole (negsuc m)) stored words = refl
@@ -116,7 +114,7 @@ second_count_lem n (whole (negsuc m)) stored words = refl
 begun_held : (n m : ℕ) → Held (begun n m (called_for n m))
 begun_held n m = go (counted n m)
   where
-    go : {c : Counts} {r : Refusal} → Counted n m c r → Held (begun n m c)
+    go : {c : Result ℕ Reason} {r : Refusal} → Counted n m c r → Held (begun n m c)
     go (pass p) = (p, omega arith)
     go bids = tt
     go pools = tt
@@ -141,34 +139,34 @@ one_stored n m read stored z (numbers zs) h =
 -- ---- One word more
 
 -- seen from this stage, with these numbers stored, the words left make the text what it was before
-pub record Onward (s : Stage) (stored : List ℤ) (left : List (List ℕ)) (before : settle.Input) : Type 0 where
+pub record Onward (s : Progress) (stored : List ℤ) (left : List (List ℕ)) (before : settle.Input) : Type 0 where
   pub same : before ≡ continued s stored left
   pub held : Held s
   pub long : length stored ≡ table_numbers
 
 -- after a word of this number
-abbrev Taken : Stage → List ℤ → Whole → List (List ℕ) → settle.Input → Type 0
+abbrev Taken : Progress → List ℤ → Whole → List (List ℕ) → settle.Input → Type 0
 Taken s stored k words before = Onward (taken_by s (ended_for k)) (stored_at (ended_for k) (place_for s) stored) words before
 
-no_place : (k : Whole) (stored : List ℤ) → stored_at (ended_for k) table_numbers stored ≡ stored
+no_place : (k : Whole) (stored : List ℤ) → stored_at (ended_for k) None stored ≡ stored
 no_place no_number stored = refl
 no_place (whole z) stored = refl
 
-first_held : (k : Whole) → Held (taken_by stage.First (ended_for k))
+first_held : (k : Whole) → Held (taken_by (Ok stage.First) (ended_for k))
 first_held no_number = tt
 first_held (whole (pos n)) = rw (no_sign n) tt
 first_held (whole (negsuc n)) = tt
 
-second_held : (n : ℕ) (k : Whole) → Held (taken_by (stage.Second n) (ended_for k))
+second_held : (n : ℕ) (k : Whole) → Held (taken_by (Ok (stage.Second n)) (ended_for k))
 second_held n no_number = tt
 second_held n (whole (pos m)) = rw (no_sign m) (begun_held n m)
 second_held n (whole (negsuc m)) = tt
 
 tables_taken : (n m read : ℕ) (stored : List ℤ) (z : ℤ) (words : List (List ℕ)) → Passed n m → read ≤ called n m → length stored ≡ table_numbers
-    → Taken (stage.Tables n m read) stored (whole z) words (tables n m (after (take read stored) (prepend (whole z) (word_numbers words))))
+    → Taken (Ok (stage.Tables n m read)) stored (whole z) words (tables n m (after (take read stored) (prepend (whole z) (word_numbers words))))
 tables_taken n m read stored z words p h l = go (ltb read (called n m)) refl
   where
-    go : (t : Bool) → ltb read (called n m) ≡ t → Taken (stage.Tables n m read) stored (whole z) words (tables n m (after (take read stored) (prepend (whole z) (word_numbers words))))
+    go : (t : Bool) → ltb read (called n m) ≡ t → Taken (Ok (stage.Tables n m read)) stored (whole z) words (tables n m (after (take read stored) (prepend (whole z) (word_numbers words))))
     go true e =
         let a = ltb-true read (called n m) e in
         let b = called_fits n m p in
@@ -186,19 +184,17 @@ tables_taken n m read stored z words p h l = go (ltb read (called n m)) refl
           long = rw (counts_passed n m p, e) l;
         }
 
-pub word_taken : (s : Stage) (stored : List ℤ) (word : List ℕ) (k : Whole) (words : List (List ℕ)) → Held s → length stored ≡ table_numbers
+pub word_taken : (s : Progress) (stored : List ℤ) (word : List ℕ) (k : Whole) (words : List (List ℕ)) → Held s → length stored ≡ table_numbers
     → whole_of word ≡ k → Taken s stored k words (continued s stored (word ∷ words))
 unfolding word_numbers
-word_taken stage.First stored word k words h l e =
-    record { same = first_count word k (stored_at (ended_for k) table_numbers stored) words e; held = first_held k; long = rw (no_place k stored) l }
-word_taken (stage.Second n) stored word k words h l e =
-    record { same = rw e (second_count_lem n k (stored_at (ended_for k) table_numbers stored) words); held = second_held n k; long = rw (no_place k stored) l }
-word_taken (stage.Tables n m read) stored word no_number words h l e = record { same = rw e refl; held = tt; long = l }
-word_taken (stage.Tables n m read) stored word (whole z) words h l e = rw e (tables_taken n m read stored z words h.0 h.1 l)
-word_taken stage.Unreadable stored word no_number words h l e = record { same = refl; held = tt; long = l }
-word_taken stage.Unreadable stored word (whole z) words h l e = record { same = refl; held = tt; long = l }
-word_taken (stage.Refused verdict) stored word no_number words h l e = record { same = refl; held = tt; long = l }
-word_taken (stage.Refused verdict) stored word (whole z) words h l e = record { same = refl; held = tt; long = l }
+word_taken (Ok stage.First) stored word k words h l e =
+    record { same = first_count word k (stored_at (ended_for k) None stored) words e; held = first_held k; long = rw (no_place k stored) l }
+word_taken (Ok (stage.Second n)) stored word k words h l e =
+    record { same = rw e (second_count_lem n k (stored_at (ended_for k) None stored) words); held = second_held n k; long = rw (no_place k stored) l }
+word_taken (Ok (stage.Tables n m read)) stored word no_number words h l e = record { same = rw e refl; held = tt; long = l }
+word_taken (Ok (stage.Tables n m read)) stored word (whole z) words h l e = rw e (tables_taken n m read stored z words h.0 h.1 l)
+word_taken (Err Unreadable) stored word k words h l e = record { same = refl; held = tt; long = rw (no_place k stored) l }
+word_taken (Err (Refused reason)) stored word k words h l e = record { same = refl; held = tt; long = rw (no_place k stored) l }
 
 -- ---- The end of the text
 
@@ -208,13 +204,13 @@ tables_stored n m stored h =
     ap (drop (bid_numbers * n)) (take-add (bid_numbers * n) (m * m) stored)
     ∙ drop_at (take (bid_numbers * n) stored) (take (m * m) (drop (bid_numbers * n) stored)) (bid_numbers * n) (length-take-le (bid_numbers * n) stored (omega arith))
 
-pub text_ended : (s : Stage) (stored : List ℤ) → Held s → length stored ≡ table_numbers → continued s stored [] ≡ input_for (stage_input s) stored
+pub text_ended : (s : Progress) (stored : List ℤ) → Held s → length stored ≡ table_numbers → continued s stored [] ≡ input_for (stage_input s) stored
 unfolding word_numbers
-text_ended stage.First stored h l = refl
-text_ended (stage.Second n) stored h l = refl
-text_ended (stage.Tables n m read) stored h l = go (eqb read (called n m)) refl
+text_ended (Ok stage.First) stored h l = refl
+text_ended (Ok (stage.Second n)) stored h l = refl
+text_ended (Ok (stage.Tables n m read)) stored h l = go (eqb read (called n m)) refl
   where
-    go : (t : Bool) → eqb read (called n m) ≡ t → tables n m (numbers (take read stored ++ [])) ≡ input_for (stage_input (stage.Tables n m read)) stored
+    go : (t : Bool) → eqb read (called n m) ≡ t → tables n m (numbers (take read stored ++ [])) ≡ input_for (stage_input (Ok (stage.Tables n m read))) stored
     go true e =
         let q = eqb-true read (called n m) e in
         let b = called_fits n m h.0 in
@@ -222,5 +218,5 @@ text_ended (stage.Tables n m read) stored h l = go (eqb read (called n m)) refl
     go false e =
         let b = called_fits n m h.0 in
         rw (append-nil (take read stored), counts_passed n m h.0, e, length-take-le read stored (omega arith), e) refl
-text_ended stage.Unreadable stored h l = refl
-text_ended (stage.Refused verdict) stored h l = refl
+text_ended (Err Unreadable) stored h l = refl
+text_ended (Err (Refused reason)) stored h l = refl

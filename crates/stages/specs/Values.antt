@@ -5,9 +5,7 @@ use Rattle.std.proofs.lemmas.Bool.{lt-leb}
 use Rattle.definitions.specs.Settle.{Whole, no_number, whole, digits_from, digits, signed, fitting32, whole_of}
 use Rattle.stages.specs.declared.words.Word.{Word}
 use Rattle.stages.specs.declared.words.Word.TheVariants.{Empty, Minus, Digits, NoNumber}
-use Rattle.stages.specs.declared.words.Ended.{Ended}
-use Rattle.stages.specs.declared.words.Ended.TheVariants.{Fault, Number}
-use Rattle.stages.specs.Words.{greatest_size, least_size, beyond, capped, grown_by, signed_of, ended_of}
+use Rattle.stages.specs.Words.{greatest_size, least_size, beyond, capped, digits_of, grown_by, Ended, number, fault, signed_of, ended_of}
 
 -- ---- A saturated value stays out of range, and any other is exact
 
@@ -31,18 +29,18 @@ capped_digit v d = go (ltb v beyond) refl
 
 -- what a word that has a byte is
 abbrev pub ended_for : Whole → Ended
-ended_for no_number = Fault
-ended_for (whole z) = Number z
+ended_for no_number = fault
+ended_for (whole z) = number z
 
-ended_cond : (t : Bool) (z : ℤ) → ended_for (cond t (whole z) no_number) ≡ cond t (Number z) Fault
+ended_cond : (t : Bool) (z : ℤ) → ended_for (cond t (whole z) no_number) ≡ cond t (number z) fault
 ended_cond true z = refl
 ended_cond false z = refl
 
-negative_capped : (v : ℕ) → signed_of true (capped v) ≡ ended_for (fitting32 (whole (neg_ℤ (pos v))))
+negative_capped : (v : ℕ) → signed_of (digits_of true (capped v)) ≡ ended_for (fitting32 (whole (neg_ℤ (pos v))))
 negative_capped zero = refl
 negative_capped (suc u) = go (ltb (suc u) beyond) refl
   where
-    go : (t : Bool) → ltb (suc u) beyond ≡ t → signed_of true (capped (suc u)) ≡ ended_for (fitting32 (whole (negsuc u)))
+    go : (t : Bool) → ltb (suc u) beyond ≡ t → signed_of (digits_of true (capped (suc u))) ≡ ended_for (fitting32 (whole (negsuc u)))
     go true e =
         let h = ltb-true (suc u) beyond e in
         rw (capped_exact (suc u) h, le-leb (suc u) least_size (omega arith), le-leb u (least_size - 1) (omega arith)) refl
@@ -50,16 +48,16 @@ negative_capped (suc u) = go (ltb (suc u) beyond) refl
         let h = ltb-false (suc u) beyond e in
         rw (capped_beyond (suc u) h, lt-leb u (least_size - 1) (omega arith)) refl
 
-positive_capped : (v : ℕ) → signed_of false (capped v) ≡ ended_for (fitting32 (whole (pos v)))
+positive_capped : (v : ℕ) → signed_of (digits_of false (capped v)) ≡ ended_for (fitting32 (whole (pos v)))
 positive_capped v = go (ltb v beyond) refl
   where
-    go : (t : Bool) → ltb v beyond ≡ t → signed_of false (capped v) ≡ ended_for (fitting32 (whole (pos v)))
+    go : (t : Bool) → ltb v beyond ≡ t → signed_of (digits_of false (capped v)) ≡ ended_for (fitting32 (whole (pos v)))
     go true e = rw (capped_exact v (ltb-true v beyond e)) (sym (ended_cond (leb v greatest_size) (pos v)))
     go false e =
         let h = ltb-false v beyond e in
         rw (capped_beyond v h, lt-leb v greatest_size (omega arith)) refl
 
-pub signed_capped : (negative : Bool) (v : ℕ) → signed_of negative (capped v) ≡ ended_for (fitting32 (whole (cond negative (neg_ℤ (pos v)) (pos v))))
+pub signed_capped : (negative : Bool) (v : ℕ) → signed_of (digits_of negative (capped v)) ≡ ended_for (fitting32 (whole (cond negative (neg_ℤ (pos v)) (pos v))))
 signed_capped true v = negative_capped v
 signed_capped false v = positive_capped v
 
@@ -80,14 +78,14 @@ unfolding word_from
 no_number_stays [] = refl
 no_number_stays (byte ∷ bytes) = no_number_stays bytes
 
-digits_ended : (negative : Bool) (bytes : List ℕ) (v : ℕ) → ended_of (word_from (Digits negative (capped v)) bytes) ≡ ended_for (fitting32 (digits_from negative v bytes))
+digits_ended : (negative : Bool) (bytes : List ℕ) (v : ℕ) → ended_of (word_from (Digits (digits_of negative (capped v))) bytes) ≡ ended_for (fitting32 (digits_from negative v bytes))
 unfolding word_from digits_from
 digits_ended negative [] v = signed_capped negative v
 digits_ended negative (byte ∷ bytes) v = go (leb 48 byte && leb byte 57) refl (digits_ended negative bytes)
   where
     go : (t : Bool) → (leb 48 byte && leb byte 57) ≡ t
-        → ((u : ℕ) → ended_of (word_from (Digits negative (capped u)) bytes) ≡ ended_for (fitting32 (digits_from negative u bytes)))
-        → ended_of (word_from (Digits negative (capped v)) (byte ∷ bytes)) ≡ ended_for (fitting32 (digits_from negative v (byte ∷ bytes)))
+        → ((u : ℕ) → ended_of (word_from (Digits (digits_of negative (capped u))) bytes) ≡ ended_for (fitting32 (digits_from negative u bytes)))
+        → ended_of (word_from (Digits (digits_of negative (capped v))) (byte ∷ bytes)) ≡ ended_for (fitting32 (digits_from negative v (byte ∷ bytes)))
     go true e onward = rw (e, capped_digit v (byte - 48)) (onward (10 * v + (byte - 48)))
     go false e onward = rw (e, no_number_stays bytes) refl
 

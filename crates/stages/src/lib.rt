@@ -1,12 +1,13 @@
 // How far a text has come: n, m, the numbers of the tables, or an answer that no further byte changes.
 #![tactic(auto)]
 
-ghost use Rattle.std.specs.Prelude.{◌≡◌};
-ghost use Rattle.stages.specs.Counting.{decided, taken_by, counted_by, faulted, one_number_more, begun, called_for, place_for, place_within, stored_at, stage_input, completed};
+ghost use Rattle.std.specs.Prelude.{◌≡◌, cond, pos, nat_abs, Ok, Err};
+ghost use Rattle.std.specs.Int.Signed.{lt_z};
+ghost use Rattle.stages.specs.declared.Unsettled.TheVariants.{Unreadable, Refused};
+ghost use Rattle.stages.specs.Counting.{taken_by, counted_by, called_for, place_for, place_within, stored_at, stage_input};
 
-use crate::words::Ended;
-use answers::is_accepted;
-use definitions::{Limits, Verdict};
+use crate::words::{Ended, NoNumber};
+use definitions::{Limits, Reason};
 use judging::judge_counts;
 
 pub mod words;
@@ -14,206 +15,126 @@ pub mod words;
 // How many numbers the tables of a book have at most.
 pub const NUMBERS: usize = Limits::BID_NUMBERS * Limits::BIDS + Limits::POOLS * Limits::POOLS;
 
-// What a whole text is.
-#[derive(Drop)]
-pub enum Input {
+// Why a text has no book: it is not exactly the numbers called for, or its counts are refused.
+#[derive(Clone, Copy, Debug, PartialEq, Eq)]
+pub enum Unsettled {
     Unreadable,
-    Refused(Verdict),
-    Ready { n: usize, m: usize },
+    Refused(Reason),
 }
 
-// How far the text has come: n is next, m is next, numbers of the tables are next, or the answer is known.
+impl From<Reason> for Unsettled {
+    ghost from_gives = { λ reason why. why ≡ Refused reason };
+
+    fn from(reason: Reason) -> Unsettled {
+        Unsettled::Refused(reason)
+    }
+}
+
+// A text that has all the numbers of its tables, by its counts.
+#[derive(Clone, Copy, Debug, PartialEq, Eq)]
+pub struct Tables {
+    pub n: usize,
+    pub m: usize,
+}
+
+// What a whole text is.
+pub type Input = Result<Tables, Unsettled>;
+
+// How far the text has come: n is next, m is next, or numbers of the tables are next.
 #[derive(Clone, Copy)]
 pub enum Stage {
     First,
     Second { n: usize },
     Tables { n: usize, m: usize, read: usize },
-    Unreadable,
-    Refused(Verdict),
 }
 
-// What two counts call for: how many numbers the tables have, or that the counts are refused.
-#[derive(Drop)]
-enum Counts {
-    Numbers(usize),
-    Faulty(Verdict),
-}
+// The stage, or the answer where it is known, whatever follows.
+pub type Progress = Result<Stage, Unsettled>;
 
 // 1 and 2, or how many numbers n bids and m rows of m capacities have.
-fn call_for(n: usize, m: usize) -> Counts
+fn call_for(n: usize, m: usize) -> Result<usize, Reason>
     ensures { result ≡ called_for n m }
 {
-    let verdict = judge_counts(n, m);
-    if !is_accepted(verdict) {
-        return Counts::Faulty(verdict);
-    }
-    Counts::Numbers(Limits::BID_NUMBERS * n + m * m)
+    let counts = judge_counts(n, m)?;
+    Ok(counts.bid_numbers() + counts.lines())
 }
 
-// Both counts are read: 1 and 2 are answered before the rest is looked at.
-fn begin(n: usize, m: usize) -> Stage
-    ensures { result ≡ begun n m (called_for n m) }
+// Where the next number of the tables is stored: nowhere if they have no more.
+fn place_within(n: usize, m: usize, read: usize) -> Option<usize>
+    ensures { result ≡ place_within read (called_for n m) }
 {
     match call_for(n, m) {
-        Counts::Numbers(_) => Stage::Tables { n, m, read: 0 },
-        Counts::Faulty(verdict) => Stage::Refused(verdict),
+        Ok(called) if read < called => Some(read),
+        _ => None,
     }
 }
 
-// One number more of the tables is read.
-fn one_more(n: usize, m: usize, read: usize) -> Stage
-    ensures { result ≡ one_number_more n m read (called_for n m) }
+// A count is not below 0.
+fn count_of(z: i32) -> Result<usize, Unsettled>
+    ensures { result ≡ cond (lt_z z (pos 0)) (Err Unreadable) (Ok (nat_abs z)) }
 {
-    match call_for(n, m) {
-        Counts::Numbers(called) => {
-            if read < called {
-                return Stage::Tables {
-                    n,
-                    m,
-                    read: read + 1,
-                };
-            }
-            Stage::Unreadable
-        }
-        Counts::Faulty(_) => Stage::Unreadable,
-    }
+    usize::try_from(z).map_err(|_| Unsettled::Unreadable)
 }
 
 // A number is read.
-fn count(stage: Stage, z: i32) -> Stage
+fn count(stage: Stage, z: i32) -> Progress
     ensures { result ≡ counted_by stage z }
 {
     match stage {
-        Stage::First => {
-            if z < 0 {
-                return Stage::Unreadable;
-            }
-            Stage::Second { n: z as usize }
-        }
+        Stage::First => Ok(Stage::Second { n: count_of(z)? }),
+        // 1 and 2 are answered before the rest is looked at.
         Stage::Second { n } => {
-            if z < 0 {
-                return Stage::Unreadable;
-            }
-            begin(n, z as usize)
+            let m = count_of(z)?;
+            judge_counts(n, m)?;
+            Ok(Stage::Tables { n, m, read: 0 })
         }
-        Stage::Tables { n, m, read } => one_more(n, m, read),
-        Stage::Unreadable => Stage::Unreadable,
-        Stage::Refused(verdict) => Stage::Refused(verdict),
-    }
-}
-
-// A word is read that is no number.
-fn fault(stage: Stage) -> Stage
-    ensures { result ≡ faulted stage }
-{
-    match stage {
-        Stage::First => Stage::Unreadable,
-        Stage::Second { n: _ } => Stage::Unreadable,
-        Stage::Tables {
-            n: _,
-            m: _,
-            read: _,
-        } => Stage::Unreadable,
-        Stage::Unreadable => Stage::Unreadable,
-        Stage::Refused(verdict) => Stage::Refused(verdict),
+        Stage::Tables { n, m, read } => match place_within(n, m, read) {
+            Some(at) => Ok(Stage::Tables { n, m, read: at + 1 }),
+            None => Err(Unsettled::Unreadable),
+        },
     }
 }
 
 // A word has ended.
-pub fn take_word(stage: Stage, ended: Ended) -> Stage
+pub fn take_word(stage: Progress, ended: Ended) -> Progress
     ensures { result ≡ taken_by stage ended }
 {
+    let stage = stage?;
     match ended {
-        Ended::Nothing => stage,
-        Ended::Fault => fault(stage),
-        Ended::Number(z) => count(stage, z),
+        Ok(Some(z)) => count(stage, z),
+        Ok(None) => Ok(stage),
+        Err(NoNumber {}) => Err(Unsettled::Unreadable),
     }
 }
 
-// Where the next number of the tables is stored: no place if they have no more.
-fn place_within(n: usize, m: usize, read: usize) -> usize
-    ensures { result ≡ place_within read (called_for n m) }
-{
-    match call_for(n, m) {
-        Counts::Numbers(called) => {
-            if called <= read {
-                return NUMBERS;
-            }
-            read
-        }
-        Counts::Faulty(_) => NUMBERS,
-    }
-}
-
-// Where the next number is stored: no place if it is a count, or if the answer is known.
-pub fn place(stage: Stage) -> usize
+// Where the next number is stored: nowhere if it is a count, or if the answer is known.
+pub fn place(stage: Progress) -> Option<usize>
     ensures { result ≡ place_for stage }
 {
     match stage {
-        Stage::First => NUMBERS,
-        Stage::Second { n: _ } => NUMBERS,
-        Stage::Tables { n, m, read } => place_within(n, m, read),
-        Stage::Unreadable => NUMBERS,
-        Stage::Refused(_) => NUMBERS,
+        Ok(Stage::Tables { n, m, read }) => place_within(n, m, read),
+        _ => None,
     }
 }
 
 // Stores a number at its place, if it has one.
-pub fn store(ended: Ended, at: usize, numbers: &mut [i32; NUMBERS])
+// With no heap there is a place for each number of the longest tables. How many of them are read says the stage alone.
+pub fn store(ended: Ended, at: Option<usize>, numbers: &mut [i32; NUMBERS])
     ensures { numbers.new ≡ stored_at ended at numbers.old }
 {
-    match ended {
-        Ended::Nothing => {}
-        Ended::Fault => {}
-        Ended::Number(z) => {
-            if at < NUMBERS {
-                numbers[at] = z;
-            }
-        }
+    if let (Ok(Some(z)), Some(at)) = (ended, at)
+        && at < NUMBERS
+    {
+        numbers[at] = z;
     }
 }
 
-// The answer is known, whatever follows.
-pub fn is_over(stage: Stage) -> bool
-    ensures { result ≡ decided stage }
-{
-    match stage {
-        Stage::First => false,
-        Stage::Second { n: _ } => false,
-        Stage::Tables {
-            n: _,
-            m: _,
-            read: _,
-        } => false,
-        Stage::Unreadable => true,
-        Stage::Refused(_) => true,
-    }
-}
-
-// All numbers called for are read, or not.
-fn complete(n: usize, m: usize, read: usize) -> Input
-    ensures { result ≡ completed n m read (called_for n m) }
-{
-    match call_for(n, m) {
-        Counts::Numbers(called) => {
-            if read == called {
-                return Input::Ready { n, m };
-            }
-            Input::Unreadable
-        }
-        Counts::Faulty(_) => Input::Unreadable,
-    }
-}
-
-// What the text is if it ends in this stage.
-pub fn answer(stage: Stage) -> Input
+// What the text is if it ends in this stage: a book if all numbers called for are read.
+pub fn answer(stage: Progress) -> Input
     ensures { result ≡ stage_input stage }
 {
-    match stage {
-        Stage::First => Input::Unreadable,
-        Stage::Second { n: _ } => Input::Unreadable,
-        Stage::Tables { n, m, read } => complete(n, m, read),
-        Stage::Unreadable => Input::Unreadable,
-        Stage::Refused(verdict) => Input::Refused(verdict),
+    match stage? {
+        Stage::Tables { n, m, read } if call_for(n, m) == Ok(read) => Ok(Tables { n, m }),
+        _ => Err(Unsettled::Unreadable),
     }
 }

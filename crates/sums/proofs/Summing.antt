@@ -1,7 +1,5 @@
 -- A loop that adds up the sizes of 32-bit numbers: what it has added so far.
-use Prim.Native.Nat.{ℕ, ◌+◌, ◌*◌, ◌^◌, ◌≤◌}
-use mathlib.Core.Path.{◌≡◌, sym, ap₂, ◌∙◌}
-use native.Mathlib.Omega.{arith}
+use Rattle.std.proofs.Common.{ℕ, ◌+◌, ◌*◌, ◌^◌, ◌≤◌, ◌≡◌, sym, ap₂, ◌∙◌, arith}
 use Rattle.definitions.specs.Arithmetic.{sum_to}
 use Rattle.laws.specs.Sum.{sum_none, sum_next}
 

@@ -1,6 +1,5 @@
 -- A book of bids alone: what changes hands in its pools, and its welfare, are those of every book with these bids, whatever its lines carry.
-use Rattle.std.specs.Prelude.{ℕ, ◌≡◌, List, [], ℤ}
-use Rattle.std.proofs.Math.Path.{refl}
+use Rattle.std.specs.Prelude.{ℕ, ◌≡◌, List, [], ℤ, refl}
 use Rattle.definitions.specs.Book.{Book, book}
 use Rattle.definitions.specs.Clearing.{sold, bought, inflow, outflow, welfare}
 

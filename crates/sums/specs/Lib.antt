@@ -1,5 +1,4 @@
--- The size of a number, what changes hands in a pool, and welfare as one sum, with its size.
-pub mod Size
+-- What changes hands in a pool, and welfare as one sum, with its size.
 pub mod BidsOnly
 pub mod Pools
 pub mod IntegerSum

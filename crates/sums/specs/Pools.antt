@@ -1,18 +1,17 @@
 -- What changes hands in a pool: the numbers that the code gives (`ChangesHands`), and how it sums them, one side of the bids, a column or a row of
 -- the lines.
-use Rattle.std.specs.Prelude.{ℕ, suc, ◌+◌, ◌*◌, ◌^◌, ◌≤◌, ◌<◌, ◌≡◌, Bool, true, false, not, cond, ◌&&◌, List, eqb, ltb, leb, length, get_or, ℤ, pos}
-use Rattle.std.proofs.Math.Path.{refl, ap}
-use native.Mathlib.Omega.{arith}
-use Rattle.std.proofs.Math.IntN.{nat_abs}
+use Rattle.std.specs.Prelude.{ℕ, suc, ◌+◌, ◌*◌, ◌^◌, ◌≤◌, ◌<◌, ◌≡◌, refl, Bool, true, not, ◌&&◌, List, eqb, ltb, leb, length, get_or, ℤ, pos, nat_abs}
+use Rattle.std.proofs.Common.{ap, arith, ltb-true, leb-true, eqb-true, lt-ltb, le-leb, eq-eqb}
 use Rattle.std.specs.Int.Signed.{lt_z}
-use Rattle.std.proofs.Common.{ltb-true, leb-true, eqb-true, lt-ltb, le-leb, eq-eqb}
+use Rattle.sums.specs.declared.pools.Side.{Side}
+use Rattle.sums.specs.declared.pools.Side.TheVariants.{Sales, Purchases}
 use Rattle.definitions.specs.Limits.{bid_limit, pool_limit, bid_numbers}
 use Rattle.definitions.specs.Arithmetic.{on, sum_to, eq_z}
 use Rattle.definitions.specs.Book.{Book, pool, quantity}
 use Rattle.definitions.specs.Checks.{amount_sent, clearing_of}
 use Rattle.definitions.specs.Clearing.{Clearing, sold, bought, inflow, outflow}
 use Rattle.laws.specs.Sum.{sum_ext}
-use Rattle.laws.specs.Tests.{and_left, and_right}
+use Rattle.std.specs.Cmp.{first_so, second_so}
 use Rattle.sums.specs.BidsOnly.{bids_only}
 
 -- ---- tables that fit
@@ -32,16 +31,16 @@ pub record TablesFit (m bids amounts flows : ℕ) : Type 0 where
 pub summable_fits : (m p bids amounts flows : ℕ) → summable m p bids amounts flows ≡ true → TablesFit m bids amounts flows × (p < m)
 unfolding summable
 summable_fits m p bids amounts flows e =
-    let by_pools_lem = and_right (leb amounts bid_limit) _ e in
-    let by_pool = and_right (leb m pool_limit) _ by_pools_lem in
-    let by-tables = and_right (ltb p m) _ by_pool in (
+    let by_pools_lem = second_so (leb amounts bid_limit) _ e in
+    let by_pool = second_so (leb m pool_limit) _ by_pools_lem in
+    let by-tables = second_so (ltb p m) _ by_pool in (
       record {
-        few_bids = leb-true _ _ (and_left (leb amounts bid_limit) _ e);
-        few_pools = leb-true _ _ (and_left (leb m pool_limit) _ by_pools_lem);
-        bid_table = eqb-true _ _ (and_left (eqb bids (bid_numbers * amounts)) _ by-tables);
-        lines = eqb-true _ _ (and_right (eqb bids (bid_numbers * amounts)) _ by-tables);
+        few_bids = leb-true _ _ (first_so (leb amounts bid_limit) _ e);
+        few_pools = leb-true _ _ (first_so (leb m pool_limit) _ by_pools_lem);
+        bid_table = eqb-true _ _ (first_so (eqb bids (bid_numbers * amounts)) _ by-tables);
+        lines = eqb-true _ _ (second_so (eqb bids (bid_numbers * amounts)) _ by-tables);
       },
-      ltb-true _ _ (and_left (ltb p m) _ by_pool),
+      ltb-true _ _ (first_so (ltb p m) _ by_pool),
     )
 
 pub fits_summable : (m p bids amounts flows : ℕ) → TablesFit m bids amounts flows → p < m → summable m p bids amounts flows ≡ true
@@ -71,29 +70,30 @@ PoolSummed m p bids amounts flows =
 -- ---- how it sums them
 
 -- a bid of this quantity is on the side asked for
-abbrev pub on_side : (purchases : Bool) (quantity : ℤ) → Bool
-on_side purchases quantity = cond purchases (lt_z (pos 0) quantity) (not (lt_z (pos 0) quantity))
+abbrev pub on_side : Side → (quantity : ℤ) → Bool
+on_side Sales quantity = not (lt_z (pos 0) quantity)
+on_side Purchases quantity = lt_z (pos 0) quantity
 
 -- and its pool has this number
-abbrev pub stands : (purchases : Bool) (number pool quantity : ℤ) → Bool
-stands purchases number pool quantity = on_side purchases quantity && eq_z pool number
+abbrev pub stands : Side → (number pool quantity : ℤ) → Bool
+stands side number pool quantity = on_side side quantity && eq_z pool number
 
 -- what bid i adds to the accepted purchases of pool p, or to its accepted sales
-abbrev pub added_by : (purchases : Bool) (p : ℕ) (bids amounts : List ℤ) → ℕ → ℕ
-added_by purchases p bids amounts i =
+abbrev pub added_by : Side → (p : ℕ) (bids amounts : List ℤ) → ℕ → ℕ
+added_by side p bids amounts i =
     let B = bids_only (length amounts) 0 bids in
-    on (stands purchases (pos (suc p)) (pool B i) (quantity B i)) (nat_abs (amount_sent amounts i))
+    on (stands side (pos (suc p)) (pool B i) (quantity B i)) (nat_abs (amount_sent amounts i))
 
 -- these purchases, or these sales
-unfoldable pub side_in : (purchases : Bool) (bids amounts : List ℤ) (p : ℕ) → ℕ
-side_in purchases bids amounts p = sum_to (length amounts) (added_by purchases p bids amounts)
+unfoldable pub side_in : Side → (bids amounts : List ℤ) (p : ℕ) → ℕ
+side_in side bids amounts p = sum_to (length amounts) (added_by side p bids amounts)
 
 module _ (m : ℕ) (bids amounts flows : List ℤ) (p : ℕ) where
-  pub side_sold : side_in false bids amounts p ≡ sold (bids_only (length amounts) m bids) (clearing_of m amounts flows).accepted p
+  pub side_sold : side_in Sales bids amounts p ≡ sold (bids_only (length amounts) m bids) (clearing_of m amounts flows).accepted p
   unfolding side_in sold
   side_sold = refl
 
-  pub side_bought : side_in true bids amounts p ≡ bought (bids_only (length amounts) m bids) (clearing_of m amounts flows).accepted p
+  pub side_bought : side_in Purchases bids amounts p ≡ bought (bids_only (length amounts) m bids) (clearing_of m amounts flows).accepted p
   unfolding side_in bought
   side_bought = refl
 

@@ -1,12 +1,10 @@
 -- Accepted amounts whose welfare can be summed in 64 bits, whatever the prices, and that welfare (`summed_welfare`): of a book within its limits it is
 -- formula (1), from amounts on a sheet (`summed_welfare_is`) and from amounts sent (`sent_welfare_is`).
-use Rattle.std.specs.Prelude.{ℕ, ◌*◌, ◌≤◌, ◌<◌, ◌≡◌, Bool, true, cond, ◌&&◌, List, map, eqb, ℤ, pos, nat_abs}
-use Rattle.std.proofs.Math.Path.{refl}
-use Rattle.std.proofs.Common.{sym, ap, ◌∙◌, arith}
-use Rattle.std.proofs.Math.Dec.{leb}
-use Rattle.std.proofs.Math.ListN.{length, get_or, get_or-map}
+use Rattle.std.specs.Prelude.{ℕ, ◌*◌, ◌≤◌, ◌<◌, ◌≡◌, refl, Bool, true, cond, ◌&&◌, List, map, eqb, leb, length, get_or, ℤ, pos, nat_abs, Decides, EachIndex}
+use Rattle.std.proofs.Common.{sym, ap, ◌∙◌, arith, eq-eqb, eqb-true, le-leb, leb-true}
 use Rattle.std.proofs.lemmas.List.{length-map}
-use borrow.Author.Tests.{eq-eqb, eqb-true, le-leb, leb-true}
+use Rattle.std.proofs.Math.ListN.{get_or-map}
+use Rattle.std.proofs.lemmas.Bool.Decides.{same_from_decides}
 use Rattle.definitions.specs.Limits.{bid_limit, quantity_limit, bid_numbers}
 use Rattle.definitions.specs.Arithmetic.{all_to}
 use Rattle.definitions.specs.Book.{Book, price, quantity}
@@ -14,13 +12,19 @@ use Rattle.definitions.specs.Checks.{amount_sent}
 use Rattle.definitions.specs.Clearing.{welfare}
 use Rattle.laws.specs.All.{all_to_at, all_to_made}
 use Rattle.laws.specs.Sum.{sum_z_ext}
-use Rattle.laws.specs.Tests.{and_left, and_right}
+use Rattle.std.specs.Cmp.{first_so, second_so}
 use Rattle.sums.specs.BidsOnly.{bids_only, welfare_of}
 use Rattle.sums.specs.Welfare.{signed_value, welfare_by_bid}
 
 -- no amount is above the limit on a bid's size
 unfoldable pub amounts_small : List ℕ → Bool
 amounts_small accepted = all_to (length accepted) (λ i. leb (get_or accepted i 0) quantity_limit)
+
+pub amounts_small_decided : (t : Bool) (accepted : List ℕ) → Decides t (EachIndex accepted (λ i. get_or accepted i 0 ≤ quantity_limit)) → t ≡ amounts_small accepted
+unfolding amounts_small
+amounts_small_decided t accepted d =
+    same_from_decides t (amounts_small accepted) d
+    (λ e i l. leb-true _ _ (all_to_at (length accepted) _ e i l), λ h. all_to_made (length accepted) _ (λ i l. le-leb _ _ (h i l)))
 
 -- few enough of them, with a bid table of their number
 unfoldable pub amounts_fit : (bids : List ℤ) (accepted : List ℕ) → Bool
@@ -66,10 +70,10 @@ pub record AmountsFit (bids : List ℤ) (accepted : List ℕ) : Type 0 where
 pub amounts_fit_lem : (bids : List ℤ) (accepted : List ℕ) → amounts_fit bids accepted ≡ true → AmountsFit bids accepted
 unfolding amounts_fit amounts_small
 amounts_fit_lem bids accepted e =
-    let rest = and_right (leb (length accepted) bid_limit) _ e in
+    let rest = second_so (leb (length accepted) bid_limit) _ e in
     let table = eqb (length bids) (bid_numbers * length accepted) in
     record {
-      few = leb-true _ _ (and_left (leb (length accepted) bid_limit) _ e);
-      table = eqb-true _ _ (and_left table _ rest);
-      small = λ i l. leb-true _ _ (all_to_at (length accepted) _ (and_right table _ rest) i l);
+      few = leb-true _ _ (first_so (leb (length accepted) bid_limit) _ e);
+      table = eqb-true _ _ (first_so table _ rest);
+      small = λ i l. leb-true _ _ (all_to_at (length accepted) _ (second_so table _ rest) i l);
     }

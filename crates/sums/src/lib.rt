@@ -1,14 +1,16 @@
 // The size of a number, and sums over bids and lines: what changes hands in a pool, and the welfare of accepted amounts.
 // Other crates sum what they have judged. Where counts or lengths do not fit, every sum here is 0; welfare also where an amount is above the limit on
-// a bid's size.
+// a bid's size. So each sum is a number for every input, and a caller that has judged its tables meets no second refusal.
 #![tactic(auto)]
 
-ghost use Rattle.std.specs.Prelude.{◌≡◌, map, nat_abs};
-ghost use Rattle.sums.specs.Pools.{PoolSummed};
+ghost use Rattle.std.specs.Prelude.{◌≡◌, ◌<◌, true, map, length, nat_abs};
+ghost use Rattle.definitions.specs.Checks.{clearing_of};
+ghost use Rattle.sums.specs.BidsOnly.{bids_only};
+ghost use Rattle.sums.specs.Pools.{TablesFit, ChangesHands, PoolSummed};
 ghost use Rattle.sums.specs.SummedWelfare.{summed_welfare};
 
-use crate::pools::{carried, is_summable, side_in};
-use crate::values::{do_amounts_fit, sum_sizes, sum_values};
+use crate::pools::{Side, carried, is_summable, side_in};
+use crate::values::{do_amounts_fit, sum_values, write_sizes};
 use definitions::Limits;
 
 mod pools;
@@ -18,14 +20,11 @@ mod values;
 pub fn size(v: i64) -> usize
     ensures { result ≡ nat_abs v }
 {
-    if v < 0 {
-        return (-1 - v) as usize + 1;
-    }
-    v as usize
+    v.unsigned_abs() as usize
 }
 
 // What changes hands in a pool: accepted sales and purchases, inflow and outflow.
-#[derive(Drop)]
+#[derive(Clone, Copy, Default)]
 pub struct PoolSums {
     pub sold: usize,
     pub bought: usize,
@@ -33,28 +32,28 @@ pub struct PoolSums {
     pub outflow: usize,
 }
 
+// What changes hands in a pool, where the tables fit.
+fn fitting_sums(m: usize, p: usize, bids: &[i32], amounts: &[i32], flows: &[i32]) -> PoolSums
+    requires tables_fit { TablesFit m (length bids.now) (length amounts.now) (length flows.now) }
+    requires p_lt_m { p < m }
+    ensures { ChangesHands true (bids_only (length amounts.now) m bids.now) (clearing_of m amounts.now flows.now) p result.sold result.bought result.inflow result.outflow }
+{
+    PoolSums {
+        sold: side_in(Side::Sales, p, bids, amounts),
+        bought: side_in(Side::Purchases, p, bids, amounts),
+        inflow: carried(p, m, m, flows),
+        outflow: carried(p * m, 1, m, flows),
+    }
+}
+
 // What changes hands in pool p, from 0, under the amounts and flows sent, each by its size.
 pub fn pool_sums(m: usize, p: usize, bids: &[i32], amounts: &[i32], flows: &[i32]) -> PoolSums
     ensures { PoolSummed m p bids.now amounts.now flows.now result.sold result.bought result.inflow result.outflow }
 {
     if !is_summable(m, p, bids.len(), amounts.len(), flows.len()) {
-        return PoolSums {
-            sold: 0,
-            bought: 0,
-            inflow: 0,
-            outflow: 0,
-        };
+        return PoolSums::default();
     }
-    let sold = side_in(false, p, bids, amounts);
-    let bought = side_in(true, p, bids, amounts);
-    let inflow = carried(p, m, m, flows);
-    let outflow = carried(p * m, 1, m, flows);
-    PoolSums {
-        sold,
-        bought,
-        inflow,
-        outflow,
-    }
+    fitting_sums(m, p, bids, amounts, flows)
 }
 
 // The welfare of accepted amounts by formula (1) of document 003.
@@ -75,6 +74,9 @@ pub fn welfare_sent(bids: &[i32], amounts: &[i32]) -> i64
     if Limits::BIDS < count {
         return 0;
     }
-    let mut sizes = [0u32; Limits::BIDS];
-    sum_sizes(bids, amounts, &mut sizes[..count])
+    // No heap: there is room for the sizes of as many amounts as a book has bids.
+    let mut room = [0; Limits::BIDS];
+    let sizes = &mut room[..count];
+    write_sizes(amounts, sizes);
+    welfare(bids, sizes)
 }

@@ -2,62 +2,69 @@
 ghost use Rattle.std.specs.Prelude.{◌≡◌, ℕ, ◌+◌, ◌*◌, ◌<◌, ◌≤◌, length, get_or, pos, nat_abs};
 ghost use Rattle.definitions.specs.Limits.{bid_limit, pool_limit, bid_numbers};
 ghost use Rattle.definitions.specs.Arithmetic.{on, sum_to};
-ghost use Rattle.sums.specs.Pools.{summable, stands, side_in, sum_limit};
+ghost use Rattle.sums.specs.Pools.{summable, on_side, stands, side_in, sum_limit};
 
 use crate::size;
 use definitions::Limits;
 
+// A side of the exchange.
+#[derive(Clone, Copy)]
+pub enum Side {
+    Sales,
+    Purchases,
+}
+
+impl Side {
+    // A bid of this quantity is on this side: a withdrawn bid is a sale.
+    fn has(self, quantity: i32) -> bool
+        ensures { result ≡ on_side self quantity }
+    {
+        match self {
+            Side::Sales => quantity <= 0,
+            Side::Purchases => 0 < quantity,
+        }
+    }
+}
+
 // Pool p of m, and tables of the lengths that go with so many amounts and with m pools.
+#[tactic(auto, unfolding(crate::specs::Pools::summable))]
 pub fn is_summable(m: usize, p: usize, bids: usize, amounts: usize, flows: usize) -> bool
     ensures { result ≡ summable m p bids amounts flows }
 {
-    if Limits::BIDS < amounts {
-        return false;
-    }
-    if Limits::POOLS < m {
-        return false;
-    }
-    if m <= p {
-        return false;
-    }
-    if bids != Limits::BID_NUMBERS * amounts {
-        return false;
-    }
-    flows == m * m
+    amounts <= Limits::BIDS
+        && m <= Limits::POOLS
+        && p < m
+        && bids == Limits::BID_NUMBERS * amounts
+        && flows == m * m
 }
 
 // The size of an amount if its bid stands on one side of a pool, else 0.
-fn amount_in(purchases: bool, number: i32, pool: i32, quantity: i32, amount: i32) -> usize
-    ensures { result ≡ on (stands purchases number pool quantity) (nat_abs amount) }
+fn amount_in(side: Side, number: i32, pool: i32, quantity: i32, amount: i32) -> usize
+    ensures { result ≡ on (stands side number pool quantity) (nat_abs amount) }
 {
-    let buys = 0 < quantity;
-    if buys != purchases {
-        return 0;
+    if side.has(quantity) && pool == number {
+        size(amount as i64)
+    } else {
+        0
     }
-    if pool != number {
-        return 0;
-    }
-    size(amount as i64)
 }
 
 // The accepted purchases of pool p, from 0, or its accepted sales.
-pub fn side_in(purchases: bool, p: usize, bids: &[i32], amounts: &[i32]) -> usize
+// The bid table is one slice, three numbers a bid, as document 01 lends it.
+pub fn side_in(side: Side, p: usize, bids: &[i32], amounts: &[i32]) -> usize
     requires p_lt_pool_limit { p < pool_limit }
     requires bids_len { length bids.now ≡ bid_numbers * length amounts.now }
     requires amounts_len_bound { length amounts.now ≤ bid_limit }
-    ensures { (result ≡ side_in purchases bids.now amounts.now p) × (result ≤ sum_limit) }
+    ensures { (result ≡ side_in side bids.now amounts.now p) × (result ≤ sum_limit) }
 {
     let number = p as i32 + 1;
     let mut total = 0;
-    let mut i = 0;
-    while i < amounts.len() {
+    for (i, &amount) in amounts.iter().enumerate() {
         let at = Limits::BID_NUMBERS * i;
         let pool = bids[at];
         let quantity = bids[at + Limits::QUANTITY_PLACE];
-        let amount = amounts[i];
-        let part = amount_in(purchases, number, pool, quantity, amount);
+        let part = amount_in(side, number, pool, quantity, amount);
         total += part;
-        i += 1;
     }
     total
 }
@@ -69,11 +76,9 @@ pub fn carried(first: usize, step: usize, count: usize, flows: &[i32]) -> usize
     ensures { (result ≡ sum_to count (λ k. nat_abs (get_or flows.now (k * step + first) (pos 0)))) × (result ≤ sum_limit) }
 {
     let mut total = 0;
-    let mut k = 0;
-    while k < count {
+    for k in 0..count {
         let flow = flows[k * step + first];
         total += size(flow as i64);
-        k += 1;
     }
     total
 }

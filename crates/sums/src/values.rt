@@ -1,10 +1,9 @@
-// The welfare of accepted amounts: whether it can be summed, its sum bid by bid, and that of amounts sent as signed numbers.
-ghost use Rattle.std.specs.Prelude.{◌≡◌, true, map, ◌≤◌, length, nat_abs};
+// The welfare of accepted amounts: whether it can be summed, and its sum bid by bid; the sizes of amounts sent as signed numbers.
+ghost use Rattle.std.specs.Prelude.{◌≡◌, map, ◌≤◌, length, nat_abs};
 ghost use Rattle.definitions.specs.Limits.{quantity_limit};
 ghost use Rattle.sums.specs.Welfare.{signed_value};
-ghost use Rattle.sums.specs.SummedWelfare.{amounts_small, amounts_fit, summed_welfare};
+ghost use Rattle.sums.specs.SummedWelfare.{AmountsFit, amounts_small, amounts_fit, summed_welfare};
 
-use crate::{size, welfare};
 use definitions::Limits;
 
 // Price × accepted of one bid: added for a purchase, taken off for a sale.
@@ -13,76 +12,49 @@ fn signed_value(price: i32, quantity: i32, accepted: u32) -> i64
     ensures { result ≡ signed_value price quantity accepted }
 {
     let value = price as i64 * accepted as i64;
-    if 0 < quantity {
-        return value;
-    }
-    -value
+    if 0 < quantity { value } else { -value }
 }
 
 // No amount is above the limit on a bid's size.
 fn are_small(accepted: &[u32]) -> bool
     ensures { result ≡ amounts_small accepted.now }
 {
-    let mut i = 0;
-    while i < accepted.len() {
-        if (Limits::QUANTITY as u32) < accepted[i] {
-            return false;
-        }
-        i += 1;
-    }
-    true
+    accepted.iter().all(|x| *x <= Limits::QUANTITY as u32)
 }
 
 // Whether the welfare can be summed in 64 bits.
+#[tactic(auto, unfolding(crate::specs::SummedWelfare::amounts_fit))]
 pub fn do_amounts_fit(bids: &[i32], accepted: &[u32]) -> bool
     ensures { result ≡ amounts_fit bids.now accepted.now }
 {
-    if Limits::BIDS < accepted.len() {
-        return false;
-    }
-    if bids.len() != Limits::BID_NUMBERS * accepted.len() {
-        return false;
-    }
-    are_small(accepted)
+    accepted.len() <= Limits::BIDS
+        && bids.len() == Limits::BID_NUMBERS * accepted.len()
+        && are_small(accepted)
 }
 
-// The sum, bid by bid.
+// The sum, bid by bid. The bid table is one slice, three numbers a bid, as document 01 lends it.
 pub fn sum_values(bids: &[i32], accepted: &[u32]) -> i64
-    requires { amounts_fit bids.now accepted.now ≡ true }
+    requires { AmountsFit bids.now accepted.now }
     ensures { result ≡ summed_welfare bids.now accepted.now }
 {
-    let mut total: i64 = 0;
-    let mut i = 0;
-    while i < accepted.len() {
+    let mut total = 0;
+    for (i, x) in accepted.iter().enumerate() {
         let at = Limits::BID_NUMBERS * i;
         let price = bids[at + Limits::PRICE_PLACE];
         let quantity = bids[at + Limits::QUANTITY_PLACE];
-        let x = accepted[i];
-        let value = signed_value(price, quantity, x);
-        total = total + value;
-        i += 1;
+        let value = signed_value(price, quantity, *x);
+        total += value;
     }
     total
 }
 
 // Writes the sizes of numbers, one by one.
-fn write_sizes(numbers: &[i32], sizes: &mut [u32])
+pub fn write_sizes(numbers: &[i32], sizes: &mut [u32])
     requires { length sizes.old ≡ length numbers.now }
     ensures { sizes.new ≡ map nat_abs numbers.now }
 {
-    let mut i = 0;
-    while i < sizes.len() {
+    for (i, size) in sizes.iter_mut().enumerate() {
         let number = numbers[i];
-        sizes[i] = size(number as i64) as u32;
-        i += 1;
+        *size = number.unsigned_abs();
     }
-}
-
-// The welfare of the sizes of amounts sent, for which the caller lends room.
-pub fn sum_sizes(bids: &[i32], amounts: &[i32], sizes: &mut [u32]) -> i64
-    requires { length sizes.old ≡ length amounts.now }
-    ensures { result ≡ summed_welfare bids.now (map nat_abs amounts.now) }
-{
-    write_sizes(amounts, sizes);
-    welfare(bids, sizes)
 }

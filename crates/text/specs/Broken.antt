@@ -1,8 +1,6 @@
 -- A text that breaks off. Last theorem: it is unreadable, or refused by its counts, and never a book to clear (`broken_turned_away`).
-use Prim.{Unit, tt}
-use Rattle.std.specs.Prelude.{ℕ, ◌+◌, ◌*◌, ◌≡◌, refl, Bool, true, false, cond, ◌||◌, ◌⊎◌, List, [], ◌∷◌, ◌++◌, ltb, eqb, length, take, drop, ℤ, pos, negsuc}
+use Rattle.std.specs.Prelude.{ℕ, ◌+◌, ◌*◌, ◌≡◌, refl, Bool, true, false, cond, ◌||◌, ◌⊎◌, List, [], ◌∷◌, ◌++◌, ltb, eqb, length, take, drop, ℤ, pos, negsuc, Ok, Err}
 use Rattle.std.proofs.Common.{subst, inl, inr, arith}
-use Rattle.definitions.specs.declared.Verdict.{Verdict}
 use Rattle.definitions.specs.Limits.{bid_limit, pool_limit, bid_numbers}
 use Rattle.definitions.specs.Book.{book}
 use Rattle.definitions.specs.Answers.{none, refuse}
@@ -11,14 +9,11 @@ use Rattle.definitions.specs.Settle.{Whole, no_number, whole, whole_of, Numbers,
 use Rattle.definitions.specs.Settle.{Input, unreadable, refused, readable, tables, after_counts, with_counts, input_of, words, settle_input}
 use Rattle.stages.specs.declared.words.Word.{Word}
 use Rattle.stages.specs.declared.words.Word.TheVariants.{Empty, Minus, Digits, NoNumber}
-use Rattle.stages.specs.declared.words.Ended.{Ended}
-use Rattle.stages.specs.declared.words.Ended.TheVariants.{Nothing, Fault, Number}
-use Rattle.stages.specs.declared.Stage.{Stage}
 use Rattle.stages.specs.declared.Stage.TheVariants as stage
-use Rattle.stages.specs.declared.Input as answer
-use Rattle.stages.specs.declared.Input.TheVariants as answers
-use Rattle.stages.specs.Words.{grown_by, ended_of}
-use Rattle.stages.specs.Counting.{taken_by, stage_input, input_for}
+use Rattle.stages.specs.declared.Unsettled.TheVariants.{Unreadable, Refused}
+use Rattle.stages.specs.Words.{grown_by}
+use Rattle.stages.specs.Counting as answer
+use Rattle.stages.specs.Counting.{Progress, stage_input, input_for}
 use Rattle.text.specs.Reading.{Reading, read_so_far, start_reader, word_ended, after_byte, fed, failed_read}
 use Rattle.text.specs.Steps.{fed_append}
 use Rattle.text.specs.Texts.{none_stored, whole_read, reads}
@@ -65,35 +60,22 @@ words_refuse (n ∷ m ∷ rest) = both_refuse (whole_of n) (whole_of m) rest
 
 -- the reader's answer is no book
 abbrev NoBook : answer.Input → Type 0
-NoBook answers.Unreadable = Unit {0}
-NoBook (answers.Refused verdict) = Unit {0}
-NoBook (answers.Ready n m) = ⊥
+NoBook (Ok tables) = ⊥
+NoBook (Err why) = Unit {0}
 
 -- a word with that byte is no number
 no_number_lem : (word : Word) → grown_by word 63 ≡ NoNumber
 no_number_lem Empty = refl
 no_number_lem Minus = refl
-no_number_lem (Digits negative value) = refl
+no_number_lem (Digits d) = refl
 no_number_lem NoNumber = refl
 
--- once the answer is known it stays
-unreadable_stays : (e : Ended) → NoBook (stage_input (taken_by stage.Unreadable e))
-unreadable_stays Nothing = tt
-unreadable_stays Fault = tt
-unreadable_stays (Number z) = tt
-
-refused_stays : (verdict : Verdict) (e : Ended) → NoBook (stage_input (taken_by (stage.Refused verdict) e))
-refused_stays verdict Nothing = tt
-refused_stays verdict Fault = tt
-refused_stays verdict (Number z) = tt
-
-byte_no_book : (word : Word) (s : Stage) (stored : List ℤ) → NoBook (stage_input (word_ended (after_byte (read_so_far (record { word = word; stage = s }) stored) 63)).reader.stage)
+byte_no_book : (word : Word) (s : Progress) (stored : List ℤ) → NoBook (stage_input (word_ended (after_byte (read_so_far (record { word = word; stage = s }) stored) 63)).reader.stage)
 unfolding after_byte word_ended
-byte_no_book word stage.First stored = rw (no_number_lem word) tt
-byte_no_book word (stage.Second n) stored = rw (no_number_lem word) tt
-byte_no_book word (stage.Tables n m read) stored = rw (no_number_lem word) tt
-byte_no_book word stage.Unreadable stored = unreadable_stays (ended_of word)
-byte_no_book word (stage.Refused verdict) stored = refused_stays verdict (ended_of word)
+byte_no_book word (Ok stage.First) stored = rw (no_number_lem word) tt
+byte_no_book word (Ok (stage.Second n)) stored = rw (no_number_lem word) tt
+byte_no_book word (Ok (stage.Tables n m read)) stored = rw (no_number_lem word) tt
+byte_no_book word (Err why) stored = tt
 
 broken_no_book : (s : Reading) → NoBook (stage_input (word_ended (fed s failed_read)).reader.stage)
 unfolding fed
@@ -103,9 +85,9 @@ broken_no_book s = byte_no_book s.reader.word s.reader.stage s.numbers
 no_book_to_clear : (a : answer.Input) (stored : List ℤ) (i : Input) → input_for a stored ≡ i → NoBook a → CountsOnly i → TurnedAway i
 no_book_to_clear a stored unreadable e b c = tt
 no_book_to_clear a stored (refused r) e b c = c
-no_book_to_clear answers.Unreadable stored (readable B) e b c = let z : ◌≡◌ {A = ℕ} 0 1 = cc in absurd (omega arith)
-no_book_to_clear (answers.Refused verdict) stored (readable B) e b c = let z : ◌≡◌ {A = ℕ} 0 1 = cc in absurd (omega arith)
-no_book_to_clear (answers.Ready n m) stored (readable B) e b c = b
+no_book_to_clear (Err Unreadable) stored (readable B) e b c = let z : ◌≡◌ {A = ℕ} 0 1 = cc in absurd (omega arith)
+no_book_to_clear (Err (Refused reason)) stored (readable B) e b c = let z : ◌≡◌ {A = ℕ} 0 1 = cc in absurd (omega arith)
+no_book_to_clear (Ok tables) stored (readable B) e b c = b
 
 pub broken_turned_away : (text : List ℕ) → TurnedAway (settle_input (text ++ failed_read))
 unfolding settle_input

@@ -1,5 +1,5 @@
 -- The reader's state after each byte and after a piece of the text.
-use Rattle.std.specs.Prelude.{ℕ, cond, List, [], ◌∷◌, ℤ}
+use Rattle.std.specs.Prelude.{ℕ, cond, List, [], ◌∷◌, ℤ, Ok}
 use Rattle.definitions.specs.Settle.{blank}
 use Rattle.stages.specs.declared.words.Word.TheVariants.{Empty}
 use Rattle.stages.specs.declared.Stage.TheVariants as stage
@@ -18,7 +18,7 @@ read_so_far reader numbers = record { reader = reader; numbers = numbers }
 
 -- before the first byte
 abbrev pub start_reader : Reader
-start_reader = record { word = Empty; stage = stage.First }
+start_reader = record { word = Empty; stage = Ok stage.First }
 
 -- the word ends, by a blank or with the text
 unfoldable pub word_ended : Reading → Reading

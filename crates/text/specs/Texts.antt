@@ -1,23 +1,21 @@
 -- Last theorem: a text, read byte by byte from its start to its end, is what document 01 says of it (`reads`).
-use Rattle.std.specs.Prelude.{ℕ, ◌≡◌, refl, Bool, true, false, List, [], ◌∷◌, ◌++◌, length, replicate, ℤ, pos}
+use Rattle.std.specs.Prelude.{ℕ, ◌≡◌, refl, Bool, true, false, List, [], ◌∷◌, ◌++◌, length, replicate, ℤ, pos, Ok, Err}
 use Rattle.std.proofs.Common.{sym, ap, ◌∙◌, true≢false, append-nil}
 use Rattle.definitions.specs.Settle.{blank, ended, words, words_from, whole_of, settle_input}
 use Rattle.definitions.specs.Settle as settle
 use Rattle.stages.specs.declared.words.Word.{Word}
 use Rattle.stages.specs.declared.words.Word.TheVariants.{Empty}
-use Rattle.stages.specs.declared.words.Ended.{Ended}
-use Rattle.stages.specs.declared.words.Ended.TheVariants.{Nothing, Fault, Number}
-use Rattle.stages.specs.declared.Stage.{Stage}
 use Rattle.stages.specs.declared.Stage.TheVariants as stage
-use Rattle.stages.specs.Words.{ended_of}
-use Rattle.stages.specs.Counting.{table_numbers, decided, taken_by, stage_input, input_for}
+use Rattle.stages.specs.declared.Unsettled.TheVariants.{Unreadable, Refused}
+use Rattle.stages.specs.Words.{Ended, nothing, ended_of}
+use Rattle.stages.specs.Counting.{table_numbers, Progress, decided, taken_by, stage_input, input_for}
 use Rattle.text.specs.Reading.{Reading, read_so_far, start_reader, word_ended, fed}
 use Rattle.text.specs.Steps.{step_blank, step_grown, decided_stays}
 use Rattle.stages.specs.Values.{word_from, word_more, word_ends}
 use Rattle.stages.specs.Stages.{Held, Onward, continued, word_taken, text_ended}
 
 -- a reader in the middle of a word
-abbrev pub in_word : Word → Stage → List ℤ → Reading
+abbrev pub in_word : Word → Progress → List ℤ → Reading
 in_word word s stored = read_so_far (record { word = word; stage = s }) stored
 
 -- what the text is if it ends here
@@ -26,38 +24,33 @@ finished s = input_for (stage_input (word_ended s).reader.stage) (word_ended s).
 
 -- ---- The answer is known
 
-decided_taken : (s : Stage) (e : Ended) → decided s ≡ true → taken_by s e ≡ s
-decided_taken stage.First e o = absurd (true≢false (sym o))
-decided_taken (stage.Second n) e o = absurd (true≢false (sym o))
-decided_taken (stage.Tables n m read) e o = absurd (true≢false (sym o))
-decided_taken stage.Unreadable Nothing o = refl
-decided_taken stage.Unreadable Fault o = refl
-decided_taken stage.Unreadable (Number z) o = refl
-decided_taken (stage.Refused verdict) Nothing o = refl
-decided_taken (stage.Refused verdict) Fault o = refl
-decided_taken (stage.Refused verdict) (Number z) o = refl
+decided_taken : (s : Progress) (e : Ended) → decided s ≡ true → taken_by s e ≡ s
+decided_taken (Ok s) e o = absurd (true≢false (sym o))
+decided_taken (Err why) e o = refl
 
-decided_answered : (s : Stage) (numbers stored : List ℤ) (left : List (List ℕ)) → decided s ≡ true → input_for (stage_input s) numbers ≡ continued s stored left
-decided_answered stage.First numbers stored left o = absurd (true≢false (sym o))
-decided_answered (stage.Second n) numbers stored left o = absurd (true≢false (sym o))
-decided_answered (stage.Tables n m read) numbers stored left o = absurd (true≢false (sym o))
-decided_answered stage.Unreadable numbers stored left o = refl
-decided_answered (stage.Refused verdict) numbers stored left o = refl
+decided_answered : (s : Progress) (numbers stored : List ℤ) (left : List (List ℕ)) → decided s ≡ true → input_for (stage_input s) numbers ≡ continued s stored left
+decided_answered (Ok s) numbers stored left o = absurd (true≢false (sym o))
+decided_answered (Err Unreadable) numbers stored left o = refl
+decided_answered (Err (Refused reason)) numbers stored left o = refl
 
-decided_finished : (word : Word) (s : Stage) (stored : List ℤ) (left : List (List ℕ)) → decided s ≡ true → finished (in_word word s stored) ≡ continued s stored left
+decided_finished : (word : Word) (s : Progress) (stored : List ℤ) (left : List (List ℕ)) → decided s ≡ true → finished (in_word word s stored) ≡ continued s stored left
 unfolding finished word_ended
 decided_finished word s stored left o = rw (decided_taken s (ended_of word) o) (decided_answered s _ stored left o)
 
 -- ---- A word has ended
 
-word_onward : (word : List ℕ) (s : Stage) (stored : List ℤ) (left : List (List ℕ)) → Held s → length stored ≡ table_numbers
+nothing_taken : (s : Progress) → taken_by s nothing ≡ s
+nothing_taken (Ok s) = refl
+nothing_taken (Err why) = refl
+
+word_onward : (word : List ℕ) (s : Progress) (stored : List ℤ) (left : List (List ℕ)) → Held s → length stored ≡ table_numbers
     → let r = word_ended (in_word (word_from Empty word) s stored) in
     Onward r.reader.stage r.numbers left (continued s stored (ended word ++ left))
 unfolding word_ended word_from
-word_onward [] s stored left h l = record { same = refl; held = h; long = l }
+word_onward [] s stored left h l = rw (nothing_taken s) record { same = refl; held = h; long = l }
 word_onward (byte ∷ word) s stored left h l = rw (word_ends byte word) (word_taken s stored (byte ∷ word) (whole_of (byte ∷ word)) left h l refl)
 
-finished_here : (word : List ℕ) (s : Stage) (stored : List ℤ) → Held s → length stored ≡ table_numbers → finished (in_word (word_from Empty word) s stored) ≡ continued s stored (ended word)
+finished_here : (word : List ℕ) (s : Progress) (stored : List ℤ) → Held s → length stored ≡ table_numbers → finished (in_word (word_from Empty word) s stored) ≡ continued s stored (ended word)
 unfolding finished
 finished_here word s stored h l =
     let w = word_onward word s stored [] h l in
@@ -67,16 +60,16 @@ finished_here word s stored h l =
 -- ---- The rest of the text
 
 -- a text that is read from within a word gives what the words left continue to
-abbrev ReadsFrom : (text word : List ℕ) (s : Stage) (stored : List ℤ) → Type 0
+abbrev ReadsFrom : (text word : List ℕ) (s : Progress) (stored : List ℤ) → Type 0
 ReadsFrom text word s stored = Held s → length stored ≡ table_numbers
     → finished (fed (in_word (word_from Empty word) s stored) text) ≡ continued s stored (words_from word text)
 
-reads_from : (text word : List ℕ) (s : Stage) (stored : List ℤ) → ReadsFrom text word s stored
+reads_from : (text word : List ℕ) (s : Progress) (stored : List ℤ) → ReadsFrom text word s stored
 unfolding fed words_from word_ended word_from
 reads_from [] word s stored h l = finished_here word s stored h l
 reads_from (byte ∷ text) word s stored h l = go (decided s) refl (blank byte) refl (reads_from text)
   where
-    go : (t : Bool) → decided s ≡ t → (u : Bool) → blank byte ≡ u → ((word' : List ℕ) (s' : Stage) (stored' : List ℤ) → ReadsFrom text word' s' stored')
+    go : (t : Bool) → decided s ≡ t → (u : Bool) → blank byte ≡ u → ((word' : List ℕ) (s' : Progress) (stored' : List ℤ) → ReadsFrom text word' s' stored')
         → finished (fed (in_word (word_from Empty word) s stored) (byte ∷ text)) ≡ continued s stored (words_from word (byte ∷ text))
     go true o u b onward =
         ap finished (decided_stays (byte ∷ text) (in_word (word_from Empty word) s stored) o) ∙ decided_finished (word_from Empty word) s stored _ o
@@ -100,4 +93,4 @@ whole_read before text = word_ended (fed (read_so_far start_reader before) text)
 -- it is what document 01 says of it
 pub reads : (before : List ℤ) (text : List ℕ) → length before ≡ table_numbers → let read = whole_read before text in input_for (stage_input read.reader.stage) read.numbers ≡ settle_input text
 unfolding settle_input words word_from finished
-reads before text l = reads_from text [] stage.First before tt l
+reads before text l = reads_from text [] (Ok stage.First) before tt l

@@ -8,15 +8,15 @@ ghost use Rattle.stages.specs.Counting.{stage_input, input_for};
 ghost use Rattle.text.specs.Reading.{read_so_far, start_reader, fed, failed_read, after_byte, word_ended};
 ghost use Rattle.text.specs.Texts.{none_stored, whole_read};
 
-use stages::words::{Word, end, grow, is_blank};
-use stages::{Input, Stage, answer, is_over, place, store, take_word};
+use stages::words::{Word, is_blank};
+use stages::{Input, Progress, Stage, answer, place, store, take_word};
 
 // What was read of a text: the word that is not yet ended, and the stage that the words before it led to. Only their types are public, so that
-// a caller's own types may hold a reader.
+// a caller's own types may hold a reader. The numbers read are lent to each call: they are too many to be copied with a reader at each byte.
 #[derive(Clone, Copy)]
 pub struct Reader {
     word: Word,
-    stage: Stage,
+    stage: Progress,
 }
 
 impl Reader {
@@ -29,7 +29,7 @@ impl Reader {
     {
         Reader {
             word: Word::Empty,
-            stage: Stage::First,
+            stage: Ok(Stage::First),
         }
     }
 
@@ -38,13 +38,11 @@ impl Reader {
         ensures value { result ≡ (word_ended (read_so_far self numbers.old)).reader }
         ensures numbers_after { numbers.new ≡ (word_ended (read_so_far self numbers.old)).numbers }
     {
-        let word = self.word;
-        let stage = self.stage;
-        let ended = end(word);
-        store(ended, place(stage), numbers);
+        let ended = self.word.end();
+        store(ended, place(self.stage), numbers);
         Reader {
             word: Word::Empty,
-            stage: take_word(stage, ended),
+            stage: take_word(self.stage, ended),
         }
     }
 
@@ -53,17 +51,15 @@ impl Reader {
         ensures value { result ≡ (after_byte (read_so_far self numbers.old) byte).reader }
         ensures numbers_after { numbers.new ≡ (after_byte (read_so_far self numbers.old) byte).numbers }
     {
-        let word = self.word;
-        let stage = self.stage;
-        if is_over(stage) {
+        if self.stage.is_err() {
             return self;
         }
         if is_blank(byte) {
             return self.end_word(numbers);
         }
         Reader {
-            word: grow(word, byte),
-            stage,
+            word: self.word.grow(byte),
+            ..self
         }
     }
 
@@ -73,10 +69,8 @@ impl Reader {
         ensures numbers_after { numbers.new ≡ (fed (read_so_far self numbers.old) bytes.now).numbers }
     {
         let mut reader = self;
-        let mut i = 0;
-        while i < bytes.len() {
-            reader = reader.step(bytes[i], numbers);
-            i += 1;
+        for byte in bytes {
+            reader = reader.step(*byte, numbers);
         }
         reader
     }
@@ -87,8 +81,7 @@ impl Reader {
         ensures numbers_after { numbers.new ≡ (word_ended (read_so_far self numbers.old)).numbers }
     {
         let reader = self.end_word(numbers);
-        let stage = reader.stage;
-        answer(stage)
+        answer(reader.stage)
     }
 
     // The text breaks off: its rest is not known, and the part that is may be a whole book. So a byte that no text may have is fed: the text is
@@ -97,8 +90,7 @@ impl Reader {
         ensures value { result ≡ stage_input (word_ended (fed (read_so_far self numbers.old) failed_read)).reader.stage }
         ensures numbers_after { numbers.new ≡ (word_ended (fed (read_so_far self numbers.old) failed_read)).numbers }
     {
-        let last = self.feed(b"?", numbers);
-        last.finish(numbers)
+        self.feed(b"?", numbers).finish(numbers)
     }
 }
 

@@ -1,10 +1,7 @@
 -- The closed forms are a best and permitted clearing with the first flows, and its pool prices; none of their differences is cut off at 0, and every number is small.
 use Rattle.std.specs.Prelude.{◌≡◌, Bool, true, false, ◌&&◌, eqb, ltb}
-use Rattle.std.proofs.Math.Path.{refl, sym, ap, ap₂}
-use Rattle.std.proofs.Common.{◌∙◌, mul-le-mul_right, pow_pos}
-use Rattle.std.proofs.Math.Bool.{not, cond, and_comm}
-use Prim.Native.Nat.{ℕ, zero, suc, ◌+◌, ◌*◌, ◌-◌, ◌≤◌, ◌<◌, ◌/◌, ◌%◌, ◌^◌, min}
-use native.Mathlib.Omega.{arith}
+use Rattle.std.proofs.Common.{refl, sym, ap, ap₂, ◌∙◌, mul-le-mul_right, pow_pos, not, cond, ℕ, zero, suc, ◌+◌, ◌*◌, ◌-◌, ◌≤◌, ◌<◌, ◌/◌, ◌%◌, ◌^◌, min, arith}
+use Rattle.std.proofs.Math.Bool.{and_comm}
 use Rattle.std.proofs.Math.Arith.{digits_div, digits_mod}
 use Rattle.definitions.specs.Limits.{bid_limit, pool_limit, price_limit, quantity_limit, capacity_limit, greatest_positive}
 use Rattle.definitions.specs.Arithmetic.{on, sum_to}

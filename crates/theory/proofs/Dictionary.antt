@@ -6,7 +6,7 @@ use Rattle.std.proofs.Math.Decide.{dec_lt}
 use Rattle.std.proofs.Math.Arith.{digits_lt}
 use Rattle.definitions.specs.Book.{Book}
 use Rattle.laws.specs.AcceptedBook.{Sound}
-use Rattle.laws.specs.Tests.{or_left, or_right}
+use Rattle.std.proofs.lemmas.Bool.{or_left, or_right}
 use Rattle.theory.specs.Choices.{or_cases, and_both, and_made}
 use Rattle.theory.specs.StrictOrder.{StrictTotal, FirstDifference, first_difference, not_both_less}
 use Rattle.theory.specs.Network.{SoundNetwork}

@@ -1,8 +1,6 @@
 -- The pool price is the highest limit price among the pool's sales accepted above 0.
 use Rattle.std.specs.Prelude.{◌≡◌, Bool, true, false, cond, ◌⊎◌}
-use Rattle.std.proofs.Math.Path.{refl}
-use Rattle.std.proofs.Common.{sym, ◌∙◌, subst, true≢false, inl, inr, arith, eq-or-lt_of_le}
-use Prim.Native.Nat.{ℕ, zero, suc, ◌<◌}
+use Rattle.std.proofs.Common.{refl, sym, ◌∙◌, subst, true≢false, inl, inr, arith, eq-or-lt_of_le, ℕ, zero, suc, ◌<◌}
 use Rattle.std.proofs.Math.Nat.{suc_inj}
 use Rattle.std.specs.Int.Signed.{lt_z, ≤ℤ_refl}
 use Rattle.definitions.specs.Book.{Book, price}

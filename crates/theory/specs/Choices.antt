@@ -5,10 +5,6 @@ use Rattle.std.proofs.Math.Nat.{suc_inj}
 use Rattle.definitions.specs.Arithmetic.{on, sum_to}
 use Rattle.laws.specs.Sum.{sum_zero}
 
-pub on_le : (t : Bool) (v : ℕ) → on t v ≤ v
-on_le true v = omega arith
-on_le false v = omega arith
-
 pub on_monotone : (t : Bool) (v w : ℕ) → v ≤ w → on t v ≤ on t w
 on_monotone true v w h = h
 on_monotone false v w h = omega arith
@@ -36,15 +32,6 @@ on_sum false n f = sym (sum_zero n)
 pub on_not : (t : Bool) (v : ℕ) → on t v + on (not t) v ≡ v
 on_not true v = omega arith
 on_not false v = omega arith
-
-pub is_true : (x : Bool) → (x ≡ false → ⊥) → x ≡ true
-is_true true h = refl
-is_true false h = absurd (h refl)
-
-pub iff : (x y : Bool) → (x ≡ true → y ≡ true) → (y ≡ true → x ≡ true) → x ≡ y
-iff true y h k = sym (h refl)
-iff false true h k = k refl
-iff false false h k = refl
 
 pub or_cases : (s t : Bool) → (s || t) ≡ true → (s ≡ true) ⊎ (t ≡ true)
 or_cases true t e = inl refl

@@ -1,8 +1,6 @@
 -- The clearing that the cuts give, of a sound book: it is best and permitted, and has the greatest welfare.
-use Rattle.std.specs.Prelude.{◌≡◌, true, ℕ, ◌+◌, ◌*◌, ◌<◌, ◌/◌, ◌%◌, pos, ◌≤ℤ◌}
-use Rattle.std.proofs.Common.{sym, ◌∙◌}
-use Rattle.std.proofs.Math.Bool.{cond}
-use native.Mathlib.Omega.{arith}
+use Rattle.std.specs.Prelude.{◌≡◌, true, ℕ, ◌+◌, ◌*◌, ◌<◌, ◌/◌, ◌%◌, pos, ◌≤ℤ◌, cond}
+use Rattle.std.proofs.Common.{sym, ◌∙◌, arith}
 use Rattle.definitions.specs.Limits.{price_limit}
 use Rattle.definitions.specs.Arithmetic.{on, sum_to, sum_z}
 use Rattle.definitions.specs.Book.{Book, price, purchase, sale, size, capacity}

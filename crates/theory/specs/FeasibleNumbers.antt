@@ -1,17 +1,14 @@
 -- The test of feasibility is what it tests: it holds exactly if the numbers sent are those of a feasible clearing (`numbers_feasible`,
 -- `feasible_numbers_lem`).
-use Rattle.std.specs.Prelude.{ℕ, ◌≤◌, ◌<◌, ◌≡◌, true, List, ℤ, nat_abs}
-use Rattle.std.proofs.Math.Path.{refl}
-use Rattle.std.proofs.Common.{sym, ap}
-use Rattle.std.proofs.Math.IntN.{pos}
-use borrow.Author.Tests.{eq-eqb, eqb-true}
+use Rattle.std.specs.Prelude.{ℕ, ◌≤◌, ◌<◌, ◌≡◌, true, List, ℤ, nat_abs, refl, pos}
+use Rattle.std.proofs.Common.{sym, ap, eq-eqb, eqb-true}
 use Rattle.definitions.specs.Arithmetic.{all_to, within}
 use Rattle.definitions.specs.Book.{Book, size, capacity}
 use Rattle.definitions.specs.Checks.{amount_sent, flow_sent, clearing_of, amounts_within, flows_within, balanced, balanced_at, feasible_numbers, SentAs}
 use Rattle.definitions.specs.Clearing.{Clearing, Feasible}
 use Rattle.laws.specs.AcceptedBook.{from_zero, within_from_zero}
 use Rattle.laws.specs.All.{all_to_at, all_to_made}
-use Rattle.laws.specs.Tests.{and_left, and_right}
+use Rattle.std.specs.Cmp.{first_so, second_so}
 use Rattle.theory.specs.SameClearing.{feasible_same_clearing}
 
 module _ (B : Book) (amounts flows : List ℤ) where
@@ -21,10 +18,10 @@ module _ (B : Book) (amounts flows : List ℤ) where
   pub numbers_feasible : feasible_numbers B amounts flows ≡ true → SentAs B amounts flows (clearing_of B.m amounts flows) × Feasible B (clearing_of B.m amounts flows)
   unfolding feasible_numbers amounts_within flows_within balanced balanced_at
   numbers_feasible e =
-      let by_bids_lem = and_left (amounts_within B amounts) _ e in
-      let rest = and_right (amounts_within B amounts) _ e in
-      let by_lines_lem = and_left (flows_within B flows) _ rest in
-      let by_pools_lem = and_right (flows_within B flows) _ rest in
+      let by_bids_lem = first_so (amounts_within B amounts) _ e in
+      let rest = second_so (amounts_within B amounts) _ e in
+      let by_lines_lem = first_so (flows_within B flows) _ rest in
+      let by_pools_lem = second_so (flows_within B flows) _ rest in
       let amount : (i : ℕ) → i < B.n → (amount_sent amounts i ≡ pos (given.accepted i)) × (given.accepted i ≤ size B i)
       = λ i l. from_zero (size B i) (amount_sent amounts i) (all_to_at B.n _ by_bids_lem i l) in
       let flow : (a b : ℕ) → a < B.m → b < B.m → (flow_sent B.m flows a b ≡ pos (given.flow a b)) × (given.flow a b ≤ capacity B a b)

@@ -1,10 +1,6 @@
 -- The flows found line by line balance every pool (`flow_feasible`), never ship both ways (`never_both`), and are the first in the lines' order (`flow_first`).
-use Rattle.std.specs.Prelude.{◌≡◌, Bool, ◌⊎◌}
-use Rattle.std.proofs.Common.{sym, ◌∙◌, subst, true≢false, inl, inr, add-zero, add-suc, eq-zero-or-pos}
-use Rattle.std.proofs.Math.Path.{ap}
-use Rattle.std.proofs.Math.Bool.{true, false}
-use Prim.Native.Nat.{ℕ, zero, suc, ◌+◌, ◌-◌, ◌≤◌, ◌<◌}
-use native.Mathlib.Omega.{arith}
+use Rattle.std.specs.Prelude.{◌≡◌, Bool, ◌⊎◌, true, false, ℕ, zero, suc, ◌+◌, ◌-◌, ◌≤◌, ◌<◌}
+use Rattle.std.proofs.Common.{sym, ◌∙◌, subst, true≢false, inl, inr, add-zero, add-suc, eq-zero-or-pos, ap, arith}
 use Rattle.std.proofs.Math.Decide.{dec_lt, ℕ_discrete}
 use Rattle.definitions.specs.Arithmetic.{on}
 use Rattle.laws.specs.Sum.{sum_ext, sum_le, sum_le_at}

@@ -1,9 +1,6 @@
 -- Used amounts along a strict total order of the bids, each a difference of two ranks: they keep within all cuts and are the greatest in dictionary order.
-use Rattle.std.specs.Prelude.{◌≡◌, Bool, ◌&&◌, ◌||◌, ◌≢◌, ◌⊎◌, ℕ, zero, suc, ◌+◌, ◌-◌, ◌≤◌, ◌<◌, ltb}
-use Rattle.std.proofs.Math.Path.{refl, ap}
-use Rattle.std.proofs.Common.{sym, ◌∙◌, true≢false, inl, inr, arith, lt-ltb}
-use Rattle.std.proofs.Math.Bool.{true, false, not}
-use Rattle.std.proofs.Math.Dec.{eqb}
+use Rattle.std.specs.Prelude.{◌≡◌, Bool, ◌&&◌, ◌||◌, ◌≢◌, ◌⊎◌, ℕ, zero, suc, ◌+◌, ◌-◌, ◌≤◌, ◌<◌, ltb, refl, true, false, not, eqb}
+use Rattle.std.proofs.Common.{ap, sym, ◌∙◌, true≢false, inl, inr, arith, lt-ltb}
 use Rattle.definitions.specs.Arithmetic.{on}
 use Rattle.laws.specs.Sum.{sum_ext, sum_add, sum_zero, sum_one}
 use Rattle.laws.specs.Tests.{Eq?, same, diff, eq?, Lt?, less, more, lt?}
@@ -12,7 +9,8 @@ use Rattle.theory.specs.Network.{Network, SoundNetwork, demand, cut, amount_in, 
 use Rattle.theory.specs.Rank.{bid_sum, rank, cost, outside, rank_le, rank_monotone, rank_ext, rank_one_more, rank_none, rank_all, rank_bound, gains_diminish}
 use Rattle.theory.specs.Balance.{all, FeasibleUse, cut_bound}
 use Rattle.theory.specs.Flows.{WithinCuts}
-use Rattle.theory.specs.Choices.{iff, and_made}
+use Rattle.std.specs.Cmp.{both_ways}
+use Rattle.theory.specs.Choices.{and_made}
 use Rattle.theory.specs.StrictOrder.{StrictTotal, place, place_le, place_lt, place_before, place_inj, find}
 
 -- the bids before bid i
@@ -203,8 +201,8 @@ module _ (N : Network) (ok : SoundNetwork N) (before : ℕ → ℕ → Bool) (o 
             rank_ext N ok (F (suc k)) (F k adding i) h.4,
             bid_sum_with N (best_used N before) (F k) i h.1 (places_not B k i h.3),
             gain i,
-            rank_ext N ok (F k) (ahead before i) (λ j r. iff (F k j) (before j i) (up j r) (down j r)),
-            rank_ext N ok (F k adding i) (ahead before i adding i) (λ j r. ap (λ (z : Bool). z || eqb j i) (iff (F k j) (before j i) (up j r) (down j r))),
+            rank_ext N ok (F k) (ahead before i) (λ j r. both_ways (F k j) (before j i) (up j r) (down j r)),
+            rank_ext N ok (F k adding i) (ahead before i adding i) (λ j r. ap (λ (z : Bool). z || eqb j i) (both_ways (F k j) (before j i) (up j r) (down j r))),
           )
 
   pub best_initial : (B : ℕ → Bool) → Initial B → bid_sum N (best_used N before) B ≡ rank N B

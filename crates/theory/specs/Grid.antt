@@ -1,7 +1,6 @@
 -- Lines as a square table, by rows: line a × m + c goes from pool a to pool c.
 use Rattle.std.specs.Prelude.{◌≡◌, refl, Bool, ℕ, zero, suc, ◌+◌, ◌*◌, ◌<◌, ◌/◌, ◌%◌, eqb}
-use Rattle.std.proofs.Math.Path.{sym, ap}
-use Rattle.std.proofs.Common.{◌∙◌, arith, suc-mul, add-zero, add-suc, zero-mul}
+use Rattle.std.proofs.Common.{sym, ap, ◌∙◌, arith, suc-mul, add-zero, add-suc, zero-mul}
 use Rattle.std.proofs.Math.Arith.{digits_div, digits_mod, digits_lt}
 use Rattle.definitions.specs.Arithmetic.{on, sum_to}
 use Rattle.laws.specs.Rows.{row_column}

@@ -1,14 +1,11 @@
 -- The merit order at raised prices: a strict total order, compared by two keys.
-use Rattle.std.specs.Prelude.{◌≡◌, Bool, true, false, ◌&&◌, ◌||◌, ◌≢◌, ◌⊎◌, ℕ, ◌+◌, ◌*◌, ◌≤◌, ◌<◌, eqb, ltb}
-use Rattle.std.proofs.Math.Path.{refl}
-use Rattle.std.proofs.Common.{sym, true≢false, arith, eq-or-lt_of_le}
-use Rattle.std.proofs.Math.Logic.{inl, inr}
+use Rattle.std.specs.Prelude.{◌≡◌, Bool, true, false, ◌&&◌, ◌||◌, ◌≢◌, ◌⊎◌, ℕ, ◌+◌, ◌*◌, ◌≤◌, ◌<◌, eqb, ltb, refl}
+use Rattle.std.proofs.Common.{sym, true≢false, arith, eq-or-lt_of_le, inl, inr, lt-ltb, le-ltb, eq-eqb, ltb-true, eqb-true}
 use Rattle.std.proofs.Math.Decide.{dec_lt}
 use Rattle.definitions.specs.Arithmetic.{on}
-use borrow.Author.Tests.{lt-ltb, le-ltb, eq-eqb, ltb-true, eqb-true}
 use Rattle.laws.specs.Tests.{is_false, on_le}
 use Rattle.theory.specs.StrictOrder.{StrictTotal}
-use Rattle.theory.specs.Choices.{iff}
+use Rattle.std.specs.Cmp.{both_ways}
 
 -- at equal price: sales before purchases, sales by lower number, purchases by higher number
 unfoldable pub tie : Bool → Bool → ℕ → ℕ → Bool
@@ -164,12 +161,12 @@ module _ (price : ℕ → ℕ) (purchase : ℕ → Bool) where
   key i = 2 * price i + on (purchase i) 1
 
   pub key_low : (j i : ℕ) → j < i → merit price purchase j i ≡ ltb (key j) (2 * price i + 1)
-  key_low j i l = iff (merit price purchase j i) (ltb (key j) (2 * price i + 1))
+  key_low j i l = both_ways (merit price purchase j i) (ltb (key j) (2 * price i + 1))
       (λ e. lt-ltb (key j) (2 * price i + 1) (low_says (purchase j) (purchase i) (price j) (price i) j i l (merit_says j i e)))
       (λ e. says_merit j i (says_low (purchase j) (purchase i) (price j) (price i) j i l (ltb-true (key j) (2 * price i + 1) e)))
 
   pub key_high : (j i : ℕ) → i < j → merit price purchase j i ≡ ltb (2 * price j) (key i)
-  key_high j i l = iff (merit price purchase j i) (ltb (2 * price j) (key i))
+  key_high j i l = both_ways (merit price purchase j i) (ltb (2 * price j) (key i))
       (λ e. lt-ltb (2 * price j) (key i) (high_says (purchase j) (purchase i) (price j) (price i) j i l (merit_says j i e)))
       (λ e. says_merit j i (says_high (purchase j) (purchase i) (price j) (price i) j i l (ltb-true (2 * price j) (key i) e)))
 

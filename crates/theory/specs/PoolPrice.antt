@@ -1,8 +1,6 @@
 -- The pool price is the highest limit price among the pool's sales accepted above 0, and how a plan computes it: as a greatest of raised prices.
-use Rattle.std.specs.Prelude.{◌≡◌, Bool, true, false, ◌&&◌, cond, ltb, ℤ, pos, negsuc, ◌≤ℤ◌}
-use Rattle.std.proofs.Math.Path.{refl}
+use Rattle.std.specs.Prelude.{◌≡◌, Bool, true, false, ◌&&◌, cond, ltb, ℤ, pos, negsuc, ◌≤ℤ◌, refl, ℕ, zero, suc, ◌+◌, ◌*◌, ◌≤◌, ◌<◌, max}
 use Rattle.std.proofs.Common.{ap, ap₂, arith, lt-ltb}
-use Prim.Native.Nat.{ℕ, zero, suc, ◌+◌, ◌*◌, ◌≤◌, ◌<◌, max}
 use Rattle.std.specs.Int.Signed.{lt_z}
 use Rattle.definitions.specs.Limits.{price_limit}
 use Rattle.definitions.specs.Arithmetic.{on, residue}

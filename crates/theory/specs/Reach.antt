@@ -1,16 +1,14 @@
 -- One pool reaches another, along lines that are not full or back along lines that carry something, exactly if no set without slack parts them.
-use Rattle.std.specs.Prelude.{◌≡◌, refl, Bool, not, ◌&&◌, ◌||◌, ◌⊎◌, ℕ, zero, suc, ◌-◌, ◌≤◌, ◌<◌, eqb, ltb}
-use Rattle.std.proofs.Common.{sym, ◌∙◌, subst, true≢false, inl, inr}
-use Rattle.std.proofs.Math.Bool.{true, false}
-use native.Mathlib.Omega.{arith}
+use Rattle.std.specs.Prelude.{◌≡◌, refl, Bool, not, ◌&&◌, ◌||◌, ◌⊎◌, ℕ, zero, suc, ◌-◌, ◌≤◌, ◌<◌, eqb, ltb, true, false}
+use Rattle.std.proofs.Common.{sym, ◌∙◌, subst, true≢false, inl, inr, arith, ltb-true, eqb-true, eq-eqb}
 use Rattle.std.proofs.Math.Decide.{dec_lt}
-use borrow.Author.Tests.{ltb-true, eqb-true, eq-eqb}
 use Rattle.definitions.specs.Arithmetic.{on, sum_to}
 use Rattle.laws.specs.Sum.{sum_le, sum_zero, sum_le_at}
-use Rattle.laws.specs.Tests.{Lt?, less, more, lt?, or_left}
+use Rattle.laws.specs.Tests.{Lt?, less, more, lt?}
 use Rattle.theory.specs.Network.{goes_out, comes_in, Network, SoundNetwork, leaving, entering, cut, amount_in, ◌adding◌}
 use Rattle.theory.specs.Balance.{only, FeasibleUse, cut_balance}
-use Rattle.theory.specs.Choices.{search, on_monotone, is_true, or_cases, and_both}
+use Rattle.std.proofs.lemmas.Bool.{true_from_ne_false, or_left}
+use Rattle.theory.specs.Choices.{search, on_monotone, or_cases, and_both}
 
 -- pool q reaches another: itself, along a line that is not full, back along one that carries something
 pub data Reach (N : Network) (f : ℕ → ℕ) (q : ℕ) : ℕ → Type 0 where
@@ -45,8 +43,8 @@ module _ (N : Network) (ok : SoundNetwork N) (x f : ℕ → ℕ) (c : FeasibleUs
 
   stays : (q : ℕ) → S q ≡ true → {p : ℕ} → Reach N f q p → S p ≡ true
   stays q e here = e
-  stays q e (along j l h r) = is_true (S (N.target j)) (λ z. full j l (stays q e r) z h)
-  stays q e (back j l h r) = is_true (S (N.source j)) (λ z. empty j l z (stays q e r) h)
+  stays q e (along j l h r) = true_from_ne_false (S (N.target j)) (λ z. full j l (stays q e r) z h)
+  stays q e (back j l h r) = true_from_ne_false (S (N.source j)) (λ z. empty j l z (stays q e r) h)
 
 -- only if
 pub reach_slack : (N : Network) → SoundNetwork N → (x f : ℕ → ℕ) → FeasibleUse N x f → (q p : ℕ) → Reach N f q p → (S : ℕ → Bool) → S q ≡ true → S p ≡ false → amount_in N x S < cut N S

@@ -1,7 +1,6 @@
 -- Only the amounts of the book's bids and the flows of its lines count: clearings that share them are feasible, best, permitted together, with the same welfare.
 use Rattle.std.specs.Prelude.{◌≡◌, Bool, true, false, not, ◌&&◌, cond, ℕ, ◌-◌, ◌≤◌, ◌<◌, ℤ, pos, ◌-ℤ◌, ◌*ℤ◌}
-use Rattle.std.proofs.Common.{sym, ap, ap₂, ◌∙◌}
-use native.Mathlib.Omega.{arith}
+use Rattle.std.proofs.Common.{sym, ap, ap₂, ◌∙◌, arith}
 use Rattle.definitions.specs.Arithmetic.{on}
 use Rattle.definitions.specs.Book.{Book, price, purchase, sale, size, in_pool}
 use Rattle.definitions.specs.Clearing.{Clearing, Feasible, sold, bought, inflow, outflow, used, welfare, NoGreater, equal, less, Best, Permitted}

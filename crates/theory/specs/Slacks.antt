@@ -1,10 +1,7 @@
 -- Line by line, for used amounts within all cuts: what each line leaves of its capacity, its flow, and what slack each set of pools keeps.
 -- After each line slacks, used amounts and flows balance (`balance_after`).
-use Rattle.std.specs.Prelude.{◌≡◌, Bool, not, ◌&&◌, ◌||◌, ◌⊎◌, ℕ, zero, suc, ◌+◌, ◌-◌, ◌≤◌, ◌<◌, ◌^◌, eqb, ltb}
-use Rattle.std.proofs.Math.Path.{refl, ap}
-use Rattle.std.proofs.Common.{sym, ap₂, ◌∙◌, inl, inr, lt-ltb, le-ltb}
-use Rattle.std.proofs.Math.Bool.{true, false, cond}
-use native.Mathlib.Omega.{arith}
+use Rattle.std.specs.Prelude.{◌≡◌, Bool, not, ◌&&◌, ◌||◌, ◌⊎◌, ℕ, zero, suc, ◌+◌, ◌-◌, ◌≤◌, ◌<◌, ◌^◌, eqb, ltb, refl, true, false, cond}
+use Rattle.std.proofs.Common.{ap, sym, ap₂, ◌∙◌, inl, inr, lt-ltb, le-ltb, arith}
 use Rattle.definitions.specs.Arithmetic.{on}
 use Rattle.laws.specs.Extremes.{min_to, min_le_start, min_le_at, min_attained}
 use Rattle.laws.specs.Sum.{sum_ext, sum_add, sum_zero, sum_one}

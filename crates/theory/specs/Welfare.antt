@@ -1,7 +1,6 @@
 -- Accepted amounts and used amounts turn into each other; the greatest used amounts have the greatest welfare.
 use Rattle.std.specs.Prelude.{◌≡◌, refl, Bool, true, false, not, ◌&&◌, cond, ℕ, zero, suc, ◌+◌, ◌*◌, ◌-◌, ◌≤◌, ◌<◌, min, ltb}
-use Rattle.std.proofs.Math.Path.{sym, ap}
-use Rattle.std.proofs.Common.{◌∙◌, true≢false, arith, mul-add, suc-mul, zero-mul, le-ltb}
+use Rattle.std.proofs.Common.{sym, ap, ◌∙◌, true≢false, arith, mul-add, suc-mul, zero-mul, le-ltb}
 use Rattle.std.proofs.Math.Nat.{zero-min}
 use Rattle.definitions.specs.Arithmetic.{on, sum_to}
 use Rattle.laws.specs.Sum.{sum_ext, sum_le, sum_add, sum_swap}

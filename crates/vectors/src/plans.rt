@@ -1,240 +1,151 @@
 // Plans as bytes, sound and damaged: document 01's examples 8 to 10, and the edges of each refusal.
 // After each name stands what the runner answers on an empty sheet, with every cell that is not 0 then: a refused plan leaves none.
-use answers::is_accepted;
 use definitions::Limits;
-use printing::{print_cells, print_number, print_verdict};
-use runner::{Ran, run};
+use printing::{print_cells, print_number};
+use runner::run;
 use std::io;
 
-// The count of orders, or the refusal.
-fn print_ran(rt: &impl Print, ran: Ran) -> io::Result<()> {
-    if !is_accepted(ran.verdict) {
-        return print_verdict(rt, ran.verdict);
+// For each plan: runs the bytes `first` on an empty sheet, then the plan's, and prints its name and what its run answers and leaves.
+fn show(rt: &impl Print, first: &[u8], plans: &[(&str, &[u8])]) -> io::Result<()> {
+    for (name, bytes) in plans {
+        let mut sheet = [0u32; Limits::CELLS];
+        let _ = run(&mut sheet, first);
+        let ran = run(&mut sheet, bytes);
+        rt.println(*name)?;
+        match ran {
+            Ok(orders) => print_number(rt, b"orders", orders)?,
+            Err(reason) => rt.println(reason)?,
+        }
+        print_cells(rt, &sheet)?;
     }
-    print_number(rt, b"orders", ran.orders)
-}
-
-// Runs some bytes, then others on the same sheet, and prints what the second run answers and leaves.
-fn show_after(rt: &impl Print, name: &[u8], first: &[u8], bytes: &[u8]) -> io::Result<()> {
-    let mut sheet = [0u32; Limits::CELLS];
-    run(&mut sheet, first);
-    let ran = run(&mut sheet, bytes);
-    rt.write_all(name)?;
-    print_ran(rt, ran)?;
-    print_cells(rt, &sheet)
-}
-
-fn show(rt: &impl Print, name: &[u8], bytes: &[u8]) -> io::Result<()> {
-    show_after(rt, name, b"", bytes)
-}
-
-// Document 01's examples 8 to 10.
-fn show_examples(rt: &impl Print) -> io::Result<()> {
-    show(rt, b"no bytes:\n", b"")?;
-    show(rt, b"example 8:\n", b"\x00\x00\x85\xea\x02\x03\x01\x00\x00")?;
-    show(
-        rt,
-        b"example 9:\n",
-        b"\x00\x00\x80\x80\x80\x80\x04\x04\x02\x00\x01",
-    )?;
-    show(rt, b"example 10:\n", b"\x00\xac\x02\xfe\xff\xff\xff\x07")?;
-    Ok(())
-}
-
-// Sound plans: each kind.
-fn show_kinds(rt: &impl Print) -> io::Result<()> {
-    show(rt, b"sum:\n", b"\x00\x00\x05\x00\x01\x07\x01\x02\x00\x01")?;
-    show(
-        rt,
-        b"sum above p:\n",
-        b"\x00\x00\xfe\xff\xff\xff\x07\x00\x01\x02\x01\x02\x00\x01",
-    )?;
-    show(
-        rt,
-        b"difference:\n",
-        b"\x00\x00\x05\x00\x01\x07\x02\x02\x01\x00",
-    )?;
-    show(
-        rt,
-        b"difference below 0:\n",
-        b"\x00\x00\x05\x00\x01\x07\x02\x02\x00\x01",
-    )?;
-    show(
-        rt,
-        b"less:\n",
-        b"\x00\x00\x05\x00\x01\x07\x04\x02\x00\x01\x04\x03\x01\x00\x04\x04\x00\x00",
-    )?;
-    show(
-        rt,
-        b"greatest number with sign:\n",
-        b"\x00\x00\xff\xff\xff\xff\x03\x04\x02\x00\x01\x04\x03\x01\x00",
-    )?;
-    show(
-        rt,
-        b"equal:\n",
-        b"\x00\x00\x05\x00\x01\x07\x05\x02\x00\x01\x05\x03\x01\x01",
-    )?;
-    Ok(())
-}
-
-// Cells that coincide, and the last cell.
-fn show_edges(rt: &impl Print) -> io::Result<()> {
-    show(
-        rt,
-        b"one cell thrice:\n",
-        b"\x00\x07\x09\x01\x07\x07\x07\x03\x07\x07\x07",
-    )?;
-    show(
-        rt,
-        b"target read first and second:\n",
-        b"\x00\x00\x05\x00\x01\x07\x02\x00\x00\x01\x02\x01\x00\x01",
-    )?;
-    show(
-        rt,
-        b"last cell:\n",
-        b"\x00\xff\x1f\x01\x01\xfe\x1f\xff\x1f\xff\x1f",
-    )?;
-    Ok(())
-}
-
-// Bytes that end inside the second order.
-fn show_cut(rt: &impl Print) -> io::Result<()> {
-    show(rt, b"cut in the kind:\n", b"\x00\x00\x05\x80")?;
-    show(rt, b"cut before the target:\n", b"\x00\x00\x05\x00")?;
-    show(rt, b"cut in the target:\n", b"\x00\x00\x05\x00\xac")?;
-    show(
-        rt,
-        b"cut before the constant:\n",
-        b"\x00\x00\x05\x00\xac\x02",
-    )?;
-    show(
-        rt,
-        b"cut in the constant:\n",
-        b"\x00\x00\x05\x00\xac\x02\xfe\xff\xff\xff",
-    )?;
-    show(rt, b"cut in the first cell:\n", b"\x00\x00\x05\x01\x00\x80")?;
-    show(
-        rt,
-        b"cut in the second cell:\n",
-        b"\x00\x00\x05\x01\x00\x00\x80",
-    )?;
-    Ok(())
-}
-
-// A kind that is none, and numbers not in their shortest form.
-fn show_longer(rt: &impl Print) -> io::Result<()> {
-    show(rt, b"kind 6 alone:\n", b"\x06")?;
-    show(rt, b"kind 6 in a longer form:\n", b"\x86\x00")?;
-    show(
-        rt,
-        b"kind 5 in a longer form:\n",
-        b"\x00\x00\x05\x85\x00\x00\x00\x00",
-    )?;
-    show(rt, b"greatest kind:\n", b"\x00\x00\x05\xff\xff\xff\xff\x0f")?;
-    show(
-        rt,
-        b"target in a longer form:\n",
-        b"\x00\x00\x05\x00\x80\x00\x05",
-    )?;
-    show(
-        rt,
-        b"constant in a longer form:\n",
-        b"\x00\x00\x05\x00\x00\x85\x80\x00",
-    )?;
-    Ok(())
-}
-
-// Numbers too long or too great.
-fn show_beyond(rt: &impl Print) -> io::Result<()> {
-    show(
-        rt,
-        b"four bytes without a last group:\n",
-        b"\x00\x00\x05\x00\x00\x80\x80\x80\x80",
-    )?;
-    show(
-        rt,
-        b"five bytes without a last group:\n",
-        b"\x00\x00\x05\x00\x00\x80\x80\x80\x80\x80",
-    )?;
-    show(rt, b"2^32:\n", b"\x00\x00\x05\x00\x00\x80\x80\x80\x80\x10")?;
-    show(
-        rt,
-        b"greatest number as a cell:\n",
-        b"\x00\x00\x05\x00\xff\xff\xff\xff\x0f\x05",
-    )?;
-    show(
-        rt,
-        b"cell past the last:\n",
-        b"\x00\x00\x05\x00\x80\x20\x05",
-    )?;
-    show(
-        rt,
-        b"second cell past the last:\n",
-        b"\x00\x00\x05\x01\x00\x00\x80\x20",
-    )?;
-    show(
-        rt,
-        b"constant p:\n",
-        b"\x00\x00\xfd\xff\xff\xff\x07\x00\x01\xff\xff\xff\xff\x07",
-    )?;
-    Ok(())
-}
-
-// Number by number: the first bad number decides.
-fn show_first(rt: &impl Print) -> io::Result<()> {
-    show(
-        rt,
-        b"kind 6 before a longer form:\n",
-        b"\x00\x00\x05\x06\x80\x00",
-    )?;
-    show(
-        rt,
-        b"cell past the last before a cut:\n",
-        b"\x00\x00\x05\x00\x80\x20",
-    )?;
-    show(
-        rt,
-        b"cell past the last in a longer form:\n",
-        b"\x00\x00\x05\x00\x80\xa0\x00\x05",
-    )?;
-    show(
-        rt,
-        b"longer form before a cell past the last:\n",
-        b"\x00\x00\x05\x01\x00\x80\x00\x80\x20",
-    )?;
-    show(rt, b"bad order before a bad order:\n", b"\x06\x86\x00")?;
-    Ok(())
-}
-
-// All bytes are checked before the first order is run.
-fn show_unchanged(rt: &impl Print) -> io::Result<()> {
-    show(
-        rt,
-        b"fault after sound orders:\n",
-        b"\x00\x00\x05\x00\x01\x07\x01\x02\x00\x01\x01\x00\x80\x20",
-    )?;
-    show_after(
-        rt,
-        b"faulty plan after a sound one:\n",
-        b"\x00\x00\x05\x00\x01\x07",
-        b"\x01\x00\x00\x01\x06",
-    )?;
-    show_after(
-        rt,
-        b"sound plan after a sound one:\n",
-        b"\x00\x00\x05\x00\x01\x07",
-        b"\x01\x00\x00\x01",
-    )?;
     Ok(())
 }
 
 pub fn show_all(rt: &impl Print) -> io::Result<()> {
-    show_examples(rt)?;
-    show_kinds(rt)?;
-    show_edges(rt)?;
-    show_cut(rt)?;
-    show_longer(rt)?;
-    show_beyond(rt)?;
-    show_first(rt)?;
-    show_unchanged(rt)
+    show(
+        rt,
+        b"",
+        &[
+            // Document 01's examples 8 to 10.
+            ("no bytes:", b""),
+            ("example 8:", b"\x00\x00\x85\xea\x02\x03\x01\x00\x00"),
+            (
+                "example 9:",
+                b"\x00\x00\x80\x80\x80\x80\x04\x04\x02\x00\x01",
+            ),
+            ("example 10:", b"\x00\xac\x02\xfe\xff\xff\xff\x07"),
+            // Sound plans: each kind.
+            ("sum:", b"\x00\x00\x05\x00\x01\x07\x01\x02\x00\x01"),
+            (
+                "sum above p:",
+                b"\x00\x00\xfe\xff\xff\xff\x07\x00\x01\x02\x01\x02\x00\x01",
+            ),
+            ("difference:", b"\x00\x00\x05\x00\x01\x07\x02\x02\x01\x00"),
+            (
+                "difference below 0:",
+                b"\x00\x00\x05\x00\x01\x07\x02\x02\x00\x01",
+            ),
+            (
+                "less:",
+                b"\x00\x00\x05\x00\x01\x07\x04\x02\x00\x01\x04\x03\x01\x00\x04\x04\x00\x00",
+            ),
+            (
+                "greatest number with sign:",
+                b"\x00\x00\xff\xff\xff\xff\x03\x04\x02\x00\x01\x04\x03\x01\x00",
+            ),
+            (
+                "equal:",
+                b"\x00\x00\x05\x00\x01\x07\x05\x02\x00\x01\x05\x03\x01\x01",
+            ),
+            // Cells that coincide, and the last cell.
+            (
+                "one cell thrice:",
+                b"\x00\x07\x09\x01\x07\x07\x07\x03\x07\x07\x07",
+            ),
+            (
+                "target read first and second:",
+                b"\x00\x00\x05\x00\x01\x07\x02\x00\x00\x01\x02\x01\x00\x01",
+            ),
+            (
+                "last cell:",
+                b"\x00\xff\x1f\x01\x01\xfe\x1f\xff\x1f\xff\x1f",
+            ),
+            // Bytes that end inside the second order.
+            ("cut in the kind:", b"\x00\x00\x05\x80"),
+            ("cut before the target:", b"\x00\x00\x05\x00"),
+            ("cut in the target:", b"\x00\x00\x05\x00\xac"),
+            ("cut before the constant:", b"\x00\x00\x05\x00\xac\x02"),
+            (
+                "cut in the constant:",
+                b"\x00\x00\x05\x00\xac\x02\xfe\xff\xff\xff",
+            ),
+            ("cut in the first cell:", b"\x00\x00\x05\x01\x00\x80"),
+            ("cut in the second cell:", b"\x00\x00\x05\x01\x00\x00\x80"),
+            // A kind that is none, and numbers not in their shortest form.
+            ("kind 6 alone:", b"\x06"),
+            ("kind 6 in a longer form:", b"\x86\x00"),
+            (
+                "kind 5 in a longer form:",
+                b"\x00\x00\x05\x85\x00\x00\x00\x00",
+            ),
+            ("greatest kind:", b"\x00\x00\x05\xff\xff\xff\xff\x0f"),
+            ("target in a longer form:", b"\x00\x00\x05\x00\x80\x00\x05"),
+            (
+                "constant in a longer form:",
+                b"\x00\x00\x05\x00\x00\x85\x80\x00",
+            ),
+            // Numbers too long or too great.
+            (
+                "four bytes without a last group:",
+                b"\x00\x00\x05\x00\x00\x80\x80\x80\x80",
+            ),
+            (
+                "five bytes without a last group:",
+                b"\x00\x00\x05\x00\x00\x80\x80\x80\x80\x80",
+            ),
+            ("2^32:", b"\x00\x00\x05\x00\x00\x80\x80\x80\x80\x10"),
+            (
+                "greatest number as a cell:",
+                b"\x00\x00\x05\x00\xff\xff\xff\xff\x0f\x05",
+            ),
+            ("cell past the last:", b"\x00\x00\x05\x00\x80\x20\x05"),
+            (
+                "second cell past the last:",
+                b"\x00\x00\x05\x01\x00\x00\x80\x20",
+            ),
+            (
+                "constant p:",
+                b"\x00\x00\xfd\xff\xff\xff\x07\x00\x01\xff\xff\xff\xff\x07",
+            ),
+            // Number by number: the first bad number decides.
+            ("kind 6 before a longer form:", b"\x00\x00\x05\x06\x80\x00"),
+            (
+                "cell past the last before a cut:",
+                b"\x00\x00\x05\x00\x80\x20",
+            ),
+            (
+                "cell past the last in a longer form:",
+                b"\x00\x00\x05\x00\x80\xa0\x00\x05",
+            ),
+            (
+                "longer form before a cell past the last:",
+                b"\x00\x00\x05\x01\x00\x80\x00\x80\x20",
+            ),
+            ("bad order before a bad order:", b"\x06\x86\x00"),
+            // All bytes are checked before the first order is run.
+            (
+                "fault after sound orders:",
+                b"\x00\x00\x05\x00\x01\x07\x01\x02\x00\x01\x01\x00\x80\x20",
+            ),
+        ],
+    )?;
+    // A plan after a sound one: a refused plan leaves what that one has left.
+    show(
+        rt,
+        b"\x00\x00\x05\x00\x01\x07",
+        &[
+            ("faulty plan after a sound one:", b"\x01\x00\x00\x01\x06"),
+            ("sound plan after a sound one:", b"\x01\x00\x00\x01"),
+        ],
+    )
 }

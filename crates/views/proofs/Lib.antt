@@ -1,3 +1,3 @@
--- Laws that the proofs cite.
-pub mod Search
+-- What the proofs cite, and the theorem on equal views.
+pub mod Viewing
 pub mod SameView

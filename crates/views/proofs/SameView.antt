@@ -1,6 +1,5 @@
 -- "Two opened clearings under one holder table give a holder the same view exactly if they agree on those shown numbers" (`same_view`).
-use Rattle.std.specs.Prelude.{ℕ, ◌+◌, ◌-◌, ◌*◌, ◌/◌, ◌%◌, ◌≡◌, refl, Bool, true, false, cond, List, length, ℤ, pos}
-use Rattle.std.proofs.Common.{sym, ap, ◌∙◌, subst, arith, ext_get_or, eq-eqb, eqb-true}
+use Rattle.std.proofs.Common.{sym, ap, ◌∙◌, subst, arith, ext_get_or, eq-eqb, eqb-true, ℕ, ◌+◌, ◌-◌, ◌*◌, ◌/◌, ◌%◌, ◌≡◌, refl, Bool, true, false, cond, List, length, ℤ, pos}
 use Rattle.std.proofs.Math.Arith.{digits_lt}
 use Rattle.definitions.specs.Limits.{pool_results}
 use Rattle.definitions.specs.Sheet.{result_count}

@@ -1,14 +1,13 @@
 -- "the views of the table's holders, one each, add up to the opened amounts in the bids' places" (`views_add_up`). There is such a list of
 -- holders for every table (`one_each_lem`), and the call gives each holder of the table its view (`holder_accepted`, `holder_given`).
-use Rattle.std.specs.Prelude.{ℕ, zero, suc, ◌<◌, ◌≡◌, Bool, true, false, cond, ◌||◌, List, [], ◌∷◌, eqb, length, get_or, ℤ, pos, ◌+ℤ◌}
-use Rattle.std.proofs.Math.Path.{refl}
-use Rattle.std.proofs.Common.{sym, ap, ap₂, ◌∙◌, arith}
+use Rattle.std.specs.Prelude.{ℕ, zero, suc, ◌<◌, ◌≡◌, Bool, true, false, cond, ◌||◌, List, [], ◌∷◌, eqb, length, get_or, ℤ, pos, ◌+ℤ◌, refl}
+use Rattle.std.proofs.Common.{sym, ap, ap₂, ◌∙◌, arith, eq-eqb, ne_eqb}
 use Rattle.std.proofs.Math.IntN.{+ℤ_idl, +ℤ_idr}
-use borrow.Author.Tests.{eq-eqb, ne_eqb}
 use Rattle.definitions.specs.Answers.{none}
 use Rattle.definitions.specs.Calls.{results_refusal, result_at}
 use Rattle.definitions.specs.Views.{is_among, view_of, view_refusal, view_slice, Distinct, OneEach, sum_over}
-use Rattle.laws.specs.Tests.{Eq?, same, diff, eq?, or_right}
+use Rattle.std.proofs.lemmas.Bool.{or_right}
+use Rattle.laws.specs.Tests.{Eq?, same, diff, eq?}
 use Rattle.views.specs.Places.{shown_bid, view_at}
 
 -- ---- the sum

@@ -1,6 +1,6 @@
 -- A view place by place: it has the results' length (`view_length`), and at each place their number or 0 (`view_at`).
-use Rattle.std.specs.Prelude.{ℕ, zero, suc, ◌≤◌, ◌<◌, ◌≡◌, refl, Bool, true, false, cond, List, [], ◌∷◌, eqb, length, get_or, ℤ, pos}
-use Rattle.std.proofs.Common.{sym, ap, ◌∙◌, arith}
+use Rattle.std.specs.Prelude.{ℕ, zero, suc, ◌≤◌, ◌<◌, ◌≡◌, ◌≢◌, ◌+◌, refl, Bool, true, false, cond, List, [], ◌∷◌, eqb, length, get_or, take, set, ℤ, pos}
+use Rattle.std.proofs.Common.{sym, ap, ◌∙◌, arith, eq-eqb, ne_eqb, add-one}
 use Rattle.definitions.specs.Calls.{result_at}
 use Rattle.definitions.specs.Views.{view_of}
 
@@ -50,3 +50,34 @@ module _ (table : List ℕ) (holder : ℕ) (results : List ℤ) (k : ℕ) where
 
   pub view_hides : shown table holder k ≡ false → pos 0 ≡ result_at (view_of table holder results) k
   view_hides e = sym (by_test e)
+
+-- ---- a table gone through entry by entry: at entry i the holder's own amount stays, another's becomes 0
+
+module _ (holder : ℕ) where
+  pub view_begins : (results : List ℤ) → view_of [] holder results ≡ results
+  unfolding view_of
+  view_begins results = refl
+
+  stays : (table : List ℕ) (results : List ℤ) (i : ℕ) → i < length table → get_or table i 0 ≡ holder → view_of (take i table) holder results ≡ view_of (take (suc i) table) holder results
+  unfolding view_of
+  stays [] results i l e = absurd (omega arith)
+  stays (h ∷ table) [] zero l e = refl
+  stays (h ∷ table) [] (suc i) l e = refl
+  stays (h ∷ table) (x ∷ results) zero l e = rw (eq-eqb h holder e) refl
+  stays (h ∷ table) (x ∷ results) (suc i) l e = ap (λ (xs : List ℤ). cond (eqb h holder) x (pos 0) ∷ xs) (stays table results i (omega arith) e)
+
+  becomes_zero : (table : List ℕ) (results : List ℤ) (i : ℕ) → i < length table → get_or table i 0 ≢ holder → set (view_of (take i table) holder results) i (pos 0) ≡ view_of (take (suc i) table) holder results
+  unfolding view_of
+  becomes_zero [] results i l e = absurd (omega arith)
+  becomes_zero (h ∷ table) [] zero l e = refl
+  becomes_zero (h ∷ table) [] (suc i) l e = refl
+  becomes_zero (h ∷ table) (x ∷ results) zero l e = rw (ne_eqb h holder e) refl
+  becomes_zero (h ∷ table) (x ∷ results) (suc i) l e = ap (λ (xs : List ℤ). cond (eqb h holder) x (pos 0) ∷ xs) (becomes_zero table results i (omega arith) e)
+
+  -- the same at the code's i + 1, of a list that is the view so far
+  module _ (table : List ℕ) (results : List ℤ) {out : List ℤ} {i : ℕ} (so_far : out ≡ view_of (take i table) holder results) (within : i < length table) where
+    pub view_keeps : get_or table i 0 ≡ holder → out ≡ view_of (take (i + 1) table) holder results
+    view_keeps e = rw (add-one i) (so_far ∙ stays table results i within e)
+
+    pub view_clears : get_or table i 0 ≢ holder → set out i (pos 0) ≡ view_of (take (i + 1) table) holder results
+    view_clears e = rw (add-one i) (ap (λ (xs : List ℤ). set xs i (pos 0)) so_far ∙ becomes_zero table results i within e)

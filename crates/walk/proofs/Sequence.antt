@@ -1,14 +1,8 @@
 -- Calls of the writer one after another, with any slices of 8 bytes or more: a call gives no orders at the end of the plan (`nothing_left`) and only
 -- there (`none_only_at_end`), so a walk stops at the end (`stops_at_end`) and does stop (`walk_stops`); a walk that has come to the end has sent
 -- exactly the plan's bytes (`plan_sent`), which the runner accepts and runs as the plan (`plan_run_lem`).
-use Prim.Native.Nat.{ℕ, suc, ◌+◌, ◌*◌, ◌≤◌, ◌<◌}
-use Rattle.std.specs.Prelude.{◌≡◌, Bool, true, false, cond, ltb, get_or}
-use Rattle.std.proofs.Math.Path.{refl, sym, ap, ap₂}
-use Rattle.std.proofs.Common.{◌∙◌, subst, true≢false, add-zero, take-append-drop, drop-drop, le-ltb, ltb-true, ltb-false}
-use mathlib.Core.List.{List, [], ◌∷◌, ◌++◌, append-nil, append_assoc}
-use native.Mathlib.Omega.{arith}
-use Rattle.std.proofs.Math.ListN.{length, take, drop, length-drop}
-use Rattle.std.proofs.Math.Seq.{drop-length, take_at}
+use Rattle.std.proofs.Common.{ℕ, suc, ◌+◌, ◌*◌, ◌≤◌, ◌<◌, refl, sym, ap, ap₂, ◌∙◌, subst, true≢false, add-zero, take-append-drop, drop-drop, le-ltb, ltb-true, ltb-false, List, [], ◌∷◌, ◌++◌, append-nil, append_assoc, arith, length, take, drop, length-drop, take_at, ◌≡◌, Bool, true, false, cond, ltb, get_or}
+use Rattle.std.proofs.Math.Seq.{drop-length}
 use Rattle.definitions.specs.declared.Order.{Order}
 use Rattle.definitions.specs.declared.Order.TheVariants.{Constant}
 use Rattle.definitions.specs.Answers.{Refusal, none, number_of, first}

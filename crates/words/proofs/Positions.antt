@@ -1,67 +1,73 @@
 -- Words by position: where one is 0, where a slice ends, which words are bytes.
-use Prim.Native.Nat.{ℕ, zero, suc, ◌+◌, ◌*◌, ◌-◌, ◌<◌, ◌≤◌}
-use mathlib.Core.Path.{◌≡◌, refl, sym}
-use mathlib.Core.Bool.{Bool, true, false, cond}
-use mathlib.Core.List.{List}
-use native.Mathlib.Omega.{arith}
-use lib.ListN.{get_or}
-use borrow.Author.Tests.{lt-ltb, le-ltb, le-leb, lt-leb}
+use Rattle.std.proofs.Common.{ℕ, zero, suc, ◌+◌, ◌*◌, ◌-◌, ◌<◌, ◌≤◌, ◌≡◌, refl, sym, ap, ◌∙◌, List, [], length, Bool, true, false, Some, None, is_some, lt-ltb, le-ltb, leb, add-one, min, get_or, drop, arith, w32}
+use Rattle.std.proofs.lemmas.List.{get_or-take, get_or-drop}
+use Rattle.std.specs.Bool.{then_some}
+use Rattle.std.specs.Int.{from_le_bytes}
+use Rattle.std.specs.Simd.{first_chunks}
 use Rattle.laws.specs.Tests.{Lt?, less, more, lt?}
-use Rattle.words.specs.Words.{word_count, word_at, nowhere, after_slice, after_slices, are_bytes, after_bytes}
+use Rattle.words.specs.Words.{word_count, word_at, after_slice, after_slices, are_bytes, after_bytes}
 
 -- ---- A word
 
-pub word_behind : (input : List ℕ) (k : ℕ) → word_count input ≤ k → word_at input k ≡ 0
+-- byte j of chunk k
+chunk_byte : (input : List ℕ) (m k j : ℕ) → k < m → j < 4 → get_or (get_or (first_chunks 4 m input) k []) j 0 ≡ get_or input (4 * k + j) 0
+chunk_byte input zero k j h q = elim h [ ]
+chunk_byte input (suc m) zero j h q = get_or-take 4 input j 0 q ∙ ap (λ (i : ℕ). get_or input i 0) (let e : j ≡ 4 * 0 + j = omega arith in e)
+chunk_byte input (suc m) (suc k) j h q =
+    chunk_byte (drop 4 input) m k j (omega arith) q ∙ get_or-drop 4 input (4 * k + j) 0 ∙ ap (λ (i : ℕ). get_or input i 0) (let e : 4 + (4 * k + j) ≡ 4 * suc k + j = omega arith in e)
+
+pub word_within : (input : List ℕ) (k : ℕ) (bytes : List ℕ) → k < word_count input → bytes ≡ get_or (first_chunks 4 (word_count input) input) k [] → from_le_bytes w32 bytes ≡ word_at input k
+unfolding word_at
+word_within input k bytes h e =
+    let byte : (j : ℕ) → j < 4 → get_or (get_or (first_chunks 4 (word_count input) input) k []) j 0 ≡ get_or input (4 * k + j) 0 = λ j q. chunk_byte input (word_count input) k j h q in
+    let here : 4 * k + 0 ≡ 4 * k = omega arith in
+    rw (e, lt-ltb k (word_count input) h, byte 0 (omega arith), byte 1 (omega arith), byte 2 (omega arith), byte 3 (omega arith), here) (omega arith)
+
+pub word_behind : (input : List ℕ) (k : ℕ) → word_count input ≤ k → 0 ≡ word_at input k
 unfolding word_at
 word_behind input k h = simp (le-ltb k (word_count input) h)
 
-pub word_within : (input : List ℕ) (k a b c d : ℕ) → k < word_count input → a ≡ get_or input (4 * k) 0 → b ≡ get_or input (4 * k + 1) 0 → c ≡ get_or input (4 * k + 2) 0
-    → d ≡ get_or input (4 * k + 3) 0 → a + 256 * (b + 256 * (c + 256 * d)) ≡ word_at input k
-unfolding word_at
-word_within input k a b c d h p q r s = rw (lt-ltb k (word_count input) h, p, q, r, s) refl
+-- a position that is capped beyond the bytes has the same word
+pub word_capped : (input : List ℕ) (k most : ℕ) → length input ≤ most → word_at input (min k most) ≡ word_at input k
+word_capped input k most h = go (lt? most k)
+  where
+    go : {t : Bool} → Lt? most k t → word_at input (min k most) ≡ word_at input k
+    go (less q) = sym (word_behind input (min k most) (omega arith)) ∙ word_behind input k (omega arith)
+    go (more q) = ap (word_at input) (let e : min k most ≡ k = omega arith in e)
 
 -- ---- A slice
 
-pub missing_length : (input : List ℕ) (at : ℕ) → word_count input ≤ at → nowhere input ≡ after_slice input at
+pub missing_length : (input : List ℕ) (at : ℕ) → word_count input ≤ at → None ≡ after_slice input at
 unfolding after_slice
 missing_length input at h = rw (le-ltb at (word_count input) h) refl
 
-pub missing_entries : (input : List ℕ) (at length : ℕ) → at < word_count input → length ≡ word_at input at → word_count input - at ≤ length
-    → nowhere input ≡ after_slice input at
+pub slice_here : (input : List ℕ) (at end : ℕ) → at < word_count input → end ≡ at + 1 + word_at input at → then_some (leb end (word_count input)) end ≡ after_slice input at
 unfolding after_slice
-missing_entries input at length h e k =
-    rw (lt-ltb at (word_count input) h, lt-leb (at + 1 + word_at input at) (word_count input) (omega arith)) refl
+slice_here input at end h e = rw (e, lt-ltb at (word_count input) h) refl
 
-pub slice_within : (input : List ℕ) (at length : ℕ) → at < word_count input → length ≡ word_at input at → length < word_count input - at
-    → at + 1 + length ≡ after_slice input at
+given_then : (test : Bool) (given end : ℕ) → Some end ≡ then_some test given → end ≡ given
+given_then true given end e = cc
+given_then false given end e = cc
+
+-- a slice ends behind its length
+pub slice_end : (input : List ℕ) (at end : ℕ) → Some end ≡ after_slice input at → at < end
 unfolding after_slice
-slice_within input at length h e k =
-    rw (e, lt-ltb at (word_count input) h, le-leb (at + 1 + word_at input at) (word_count input) (omega arith)) refl
+slice_end input at end e = omega (arith, given_then _ _ _ e)
 
--- a slice that ends somewhere ends behind its length
-pub slice_end : (input : List ℕ) (at : ℕ) → after_slice input at ≤ word_count input → at < after_slice input at
-slice_end input at h = go (lt? at (word_count input)) (lt? (word_at input at) (word_count input - at))
-  where
-    go : {s t : Bool} → Lt? at (word_count input) s → Lt? (word_at input at) (word_count input - at) t → at < after_slice input at
-    go (more l) (less q) = absurd (omega (arith, h, missing_length input at l))
-    go (more l) (more q) = absurd (omega (arith, h, missing_length input at l))
-    go (less l) (less q) = omega (arith, slice_within input at (word_at input at) l refl q)
-    go (less l) (more q) = absurd (omega (arith, h, missing_entries input at (word_at input at) l refl q))
-
--- a slice that ends behind the last word ends nowhere
-ends_nowhere : (input : List ℕ) (at : ℕ) → word_count input < after_slice input at → nowhere input ≡ after_slice input at
-ends_nowhere input at h = go (lt? at (word_count input)) (lt? (word_at input at) (word_count input - at))
-  where
-    go : {s t : Bool} → Lt? at (word_count input) s → Lt? (word_at input at) (word_count input - at) t → nowhere input ≡ after_slice input at
-    go (more l) (less q) = missing_length input at l
-    go (more l) (more q) = missing_length input at l
-    go (less l) (less q) = absurd (omega (arith, h, slice_within input at (word_at input at) l refl q))
-    go (less l) (more q) = missing_entries input at (word_at input at) l refl q
-
-pub one_slice : (input : List ℕ) (at left : ℕ) → 0 < left → after_slices input at left ≡ after_slices input (after_slice input at) (left - 1)
+-- one slice more
+pub one_slice : (input : List ℕ) (at i end : ℕ) → after_slices input at i ≡ Some end → after_slices input at (i + 1) ≡ after_slice input end
 unfolding after_slices
-one_slice input at zero h = absurd (omega arith)
-one_slice input at (suc left) h = rw (let q : suc left - 1 ≡ left = omega arith in q) refl
+one_slice input at i end e = rw (add-one, after_slices, e) refl
+
+-- where words are missing, they are missing for more slices too
+pub none_behind : (input : List ℕ) (at i n : ℕ) → after_slices input at i ≡ None → i ≤ n → after_slices input at n ≡ None
+unfolding after_slices
+none_behind input at i zero e h = let q : i ≡ 0 = omega arith in rw q at e
+none_behind input at i (suc n) e h = go (lt? n i) (none_behind input at i n e)
+  where
+    go : {t : Bool} → Lt? n i t → (i ≤ n → after_slices input at n ≡ None) → after_slices input at (suc n) ≡ None
+    go (less q) before = let r : i ≡ suc n = omega arith in rw r at e
+    go (more q) before = rw (before q) refl
 
 -- ---- Bytes
 
@@ -81,18 +87,16 @@ unfolding are_bytes
 no_byte input to k h b = rw (next_count to k h, le-ltb (word_at input k) 256 b) refl
 
 -- the position behind them, by where the slice ends and whether its words are bytes
-cond_same : (t : Bool) (n : ℕ) → n ≡ cond t n n
-cond_same true n = refl
-cond_same false n = refl
-
-pub bytes_missing : (input : List ℕ) (at : ℕ) → word_count input < after_slice input at → nowhere input ≡ after_bytes input at
+pub bytes_missing : (input : List ℕ) (at : ℕ) → None ≡ after_slice input at → None ≡ after_bytes input at
 unfolding after_bytes
-bytes_missing input at h = rw (sym (ends_nowhere input at h)) (cond_same (are_bytes input (at + 1) (nowhere input - (at + 1))) (nowhere input))
+bytes_missing input at e = rw (← e) refl
 
-pub bytes_there : (input : List ℕ) (at : ℕ) → are_bytes input (at + 1) (after_slice input at - (at + 1)) ≡ true → after_slice input at ≡ after_bytes input at
+pub bytes_here : (input : List ℕ) (at end : ℕ) → Some end ≡ after_slice input at → then_some (are_bytes input (at + 1) (end - (at + 1))) end ≡ after_bytes input at
 unfolding after_bytes
-bytes_there input at e = rw e refl
+bytes_here input at end e = rw (← e) refl
 
-pub bytes_broken : (input : List ℕ) (at : ℕ) → are_bytes input (at + 1) (after_slice input at - (at + 1)) ≡ false → nowhere input ≡ after_bytes input at
-unfolding after_bytes
-bytes_broken input at e = rw e refl
+-- ---- Which input is that of a call
+
+pub is_some_then : {A : Type 0} (test : Bool) (given : A) → is_some (then_some test given) ≡ test
+is_some_then true given = refl
+is_some_then false given = refl

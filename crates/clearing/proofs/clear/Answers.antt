@@ -1,75 +1,74 @@
--- `clearing::clear` meets its contract: what sealing says decides, and the plan runs from the sealed sheet.
-use Prim.Native.Nat.{ℕ}
-use mathlib.Core.Path.{◌≡◌, sym, ap, subst, ◌∙◌}
-use mathlib.Core.List.{List}
-use mir.Syntax.{w64}
-use lib.ListN.{length}
-use Rattle.definitions.specs.Book.{Book, book}
-use Rattle.definitions.specs.Sheet.{amount_cell}
-use Rattle.definitions.specs.Clearing.{welfare}
-use Rattle.definitions.specs.Machine.{cell}
-use Rattle.std.proofs.Common.{false}
-use Rattle.definitions.specs.Answers.{none, is_none}
+-- `clear` meets its contract: what sealing says decides, and the plan runs from the sealed sheet.
+use Rattle.std.proofs.Common.{ℕ, ◌≡◌, sym, ap₂, ◌∙◌, false, length, w64}
+use Rattle.std.proofs.lemmas.Result.{err_from_is_err_and}
+use Rattle.definitions.specs.Answers.{is_none}
+use Rattle.definitions.specs.Book.{Book, book_of}
 use Rattle.definitions.specs.Calls.{seal_refusal}
 use Rattle.definitions.specs.Outcome.{plan_run}
+use Rattle.definitions.specs.Plan.{total}
 use Rattle.laws.specs.SignedTests.{back}
-use Rattle.laws.specs.Search.{turned_away, let_through}
+use Rattle.laws.specs.Search.{turned_away}
 use Rattle.plan.specs.Plan.{plan}
 use Rattle.plan.proofs.Asking.{total_accepted}
-use Rattle.clearing.specs.Amounts.{AmountsWithin}
+use Rattle.orders.specs.Runs.{stepped_plan}
 use Rattle.clearing.proofs.Sealing.{refused_count, refused_welfare, refused_sheet, counts_pass, count_given, welfare_given, sheet_given, amounts_within_lem, run_left}
-use mathlib.Core.Bool.{not}
 use Rattle.clearing.proofs.clear.Goals as goal
-use Rattle.clearing.proofs.clear.Goals.{After-run_plan-orders, Then-not-is_accepted}
+use Rattle.clearing.proofs.clear.Goals.{After-from_residual, After-run_plan}
 
--- the book to clear, where it is refused and where the plan has run
-abbrev refused_book : Then-not-is_accepted → Book
-refused_book c = book c.args.n c.args.m c.args.bids.now c.args.capacities.now
+-- ---- the book is refused
 
-abbrev book_run : After-run_plan-orders → Book
-book_run c = book c.args.n c.args.m c.args.bids.now c.args.capacities.now
+refused : (c : After-from_residual) → is_none (seal_refusal (book_of c.args.book.now) (length c.args.sheet.now)) ≡ false
+refused c = turned_away c.in_err-counts.field-0.0 c.in_err-counts.ensures.refusal
 
-refused : (c : Then-not-is_accepted) → is_none (seal_refusal (refused_book c) (length c.args.sheet.now)) ≡ false
-refused c = turned_away c.seal-verdict.ensures.answer c.is_accepted.ensures (ap not c.if-not-is_accepted.true)
+pub returns-in_err-counts-clause-orders : goal.returns-in_err-counts-clause-orders
+returns-in_err-counts-clause-orders c =
+    let p = err_from_is_err_and c.from_residual.result c.from_residual.ensures.1 in
+    rw p.1 (refused_count (book_of c.args.book.now) c.args.sheet.now (refused c))
 
-pub returns-then-not-is_accepted-clause-orders : goal.returns-then-not-is_accepted-clause-orders
-returns-then-not-is_accepted-clause-orders c = refused_count (refused_book c) c.args.sheet.now (refused c)
+pub returns-in_err-counts-clause-welfare : goal.returns-in_err-counts-clause-welfare
+returns-in_err-counts-clause-welfare c =
+    let p = err_from_is_err_and c.from_residual.result c.from_residual.ensures.1 in
+    rw p.1 (refused_welfare (book_of c.args.book.now) c.args.sheet.now (refused c))
 
-pub returns-then-not-is_accepted-clause-welfare : goal.returns-then-not-is_accepted-clause-welfare
-returns-then-not-is_accepted-clause-welfare c = refused_welfare (refused_book c) c.args.sheet.now (refused c)
+pub returns-in_err-counts-clause-cells : goal.returns-in_err-counts-clause-cells
+returns-in_err-counts-clause-cells c = c.seal.ensures.cells ∙ refused_sheet (book_of c.args.book.now) c.args.sheet.now (refused c)
 
-pub returns-then-not-is_accepted-clause-cells : goal.returns-then-not-is_accepted-clause-cells
-returns-then-not-is_accepted-clause-cells c = c.seal-verdict.ensures.cells ∙ refused_sheet (refused_book c) c.args.sheet.now (refused c)
-
--- the book was accepted
-accepted : (c : After-run_plan-orders) → seal_refusal (book_run c) (length c.args.sheet.now) ≡ none
-accepted c = let_through c.seal-verdict.ensures.answer c.is_accepted.ensures (ap not c.if-not-is_accepted.false)
+-- ---- it is accepted
 
 -- the sheet after the plan
-ran : (c : After-run_plan-orders) → c.run_plan-orders.new.sheet ≡ plan_run plan (book_run c)
-ran c = run_left (book_run c) c.args.sheet.now (accepted c) _ _ c.seal-verdict.ensures.cells c.run_plan-orders.ensures.cells
+ran : (c : After-run_plan) → c.run_plan.new.sheet ≡ plan_run plan (book_of c.args.book.now)
+ran c =
+    let same = c.in_ok-counts.ensures.counts in
+    run_left (book_of c.args.book.now) c.args.sheet.now (sym c.in_ok-counts.ensures.refusal) _ _ c.seal.ensures.cells
+    (c.run_plan.ensures.cells ∙ ap₂ (λ (n : ℕ) (m : ℕ). stepped_plan plan n m c.seal.new.sheet) same.0 same.1)
 
 pub welfare_of-welfare-requires : goal.welfare_of-welfare-requires
 welfare_of-welfare-requires c =
-    let run = (goal.at.welfare_of-welfare-requires c).After-run_plan-orders in
-    subst (AmountsWithin c.args.n c.args.m c.args.bids.now) (sym (ran run)) (amounts_within_lem (book_run run) c.args.sheet.now (accepted run))
+    let B : Book = book_of c.args.book.now in
+    let same = c.in_ok-counts.ensures.counts in
+    let run = (goal.at.welfare_of-welfare-requires c).After-run_plan in
+    rw (same.0, same.1, ran run) (amounts_within_lem B c.args.sheet.now (sym c.in_ok-counts.ensures.refusal))
 
 pub returns-clause-orders : goal.returns-clause-orders
 returns-clause-orders c =
-    let run = (goal.at.returns-clause-orders c).After-run_plan-orders in
-    c.run_plan-orders.ensures.count
-    ∙ total_accepted plan c.args.n c.args.m (counts_pass (book_run run) c.args.sheet.now (accepted run))
-    ∙ count_given (book_run run) c.args.sheet.now (accepted run)
+    let B : Book = book_of c.args.book.now in
+    let same = c.in_ok-counts.ensures.counts in
+    let accepted = sym c.in_ok-counts.ensures.refusal in
+    c.in_ok-orders.ensures.count
+    ∙ ap₂ (total plan) same.0 same.1
+    ∙ total_accepted plan B.n B.m (counts_pass B c.args.sheet.now accepted)
+    ∙ count_given B c.args.sheet.now accepted
 
 pub returns-clause-welfare : goal.returns-clause-welfare
 returns-clause-welfare c =
-    let run = (goal.at.returns-clause-welfare c).After-run_plan-orders in
+    let B : Book = book_of c.args.book.now in
+    let same = c.in_ok-counts.ensures.counts in
+    let run = (goal.at.returns-clause-welfare c).After-run_plan in
     back w64 _ c.welfare_of-welfare.type_inv
-    ∙ c.welfare_of-welfare.ensures c.args.capacities.now
-    ∙ ap (λ (s : List ℕ). welfare (book_run run) (λ i. cell s (amount_cell c.args.n c.args.m i))) (ran run)
-    ∙ welfare_given (book_run run) c.args.sheet.now (accepted run)
+    ∙ c.welfare_of-welfare.ensures B.capacities
+    ∙ rw (same.0, same.1, ran run) (welfare_given B c.args.sheet.now (sym c.in_ok-counts.ensures.refusal))
 
 pub returns-clause-cells : goal.returns-clause-cells
 returns-clause-cells c =
-    let run = (goal.at.returns-clause-cells c).After-run_plan-orders in
-    ran run ∙ sheet_given (book_run run) c.args.sheet.now (accepted run)
+    let run = (goal.at.returns-clause-cells c).After-run_plan in
+    ran run ∙ sheet_given (book_of c.args.book.now) c.args.sheet.now (sym c.in_ok-counts.ensures.refusal)

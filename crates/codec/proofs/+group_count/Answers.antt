@@ -11,7 +11,7 @@ pub returns-then-v-lt128 : goal.returns-then-v-lt128
 returns-then-v-lt128 t c = sym (ap length (groups_last c.args.g c.args.v c.if-g-eq0.false c.if-v-lt128.true))
 
 pub overflow_add-result : goal.overflow_add-result
-overflow_add-result t c = omega (arith, c.group_count.ensures, at_most (c.args.g - 1) (c.args.v / 128), c.requires)
+overflow_add-result t c = omega (arith, c.group_count.ensures, at_most (c.args.g - 1) (c.args.v / 128), c.ranges.g)
 
 pub returns : goal.returns
 returns t c = omega (arith, c.group_count.ensures, ap length (groups_more c.args.g c.args.v c.if-g-eq0.false c.if-v-lt128.false))

@@ -1,9 +1,10 @@
 -- `put_groups` meets its contract: each return is one clause of `groups`.
 use Rattle.std.proofs.Common.{ℕ, ◌+◌, ◌-◌, ◌/◌, ◌%◌, ◌≡◌, refl, sym, ap, ◌∙◌, List, [], ◌∷◌, arith, length, length-set, set}
+use Rattle.std.proofs.lemmas.List.{drop-set}
 use Rattle.definitions.specs.Bytes.{groups}
 use Rattle.definitions.specs.Plan.{over}
 use Rattle.codec.proofs.Places.{groups_none, groups_last, groups_more}
-use Rattle.codec.proofs.Stores.{one_byte, room_behind, both}
+use Rattle.codec.proofs.Stores.{room_behind, both}
 use Rattle.codec.proofs.+put_groups.Goals as goal
 use Rattle.codec.proofs.+put_groups.Goals.{Then-v-lt128, Else-v-lt128}
 
@@ -20,7 +21,7 @@ pub returns-then-v-lt128-clause-size : goal.returns-then-v-lt128-clause-size
 returns-then-v-lt128-clause-size t c = rw (groups_last c.args.g c.args.v c.if-g-eq0.false c.if-v-lt128.true) refl
 
 pub returns-then-v-lt128-clause-bytes : goal.returns-then-v-lt128-clause-bytes
-returns-then-v-lt128-clause-bytes t c = one_byte _ _ (bounds-out-0 t c) ∙ ap (λ (l : List ℕ). over l c.args.out.now) (sym (groups_last c.args.g c.args.v c.if-g-eq0.false c.if-v-lt128.true))
+returns-then-v-lt128-clause-bytes t c = drop-set c.args.out.now 0 _ (bounds-out-0 t c) ∙ ap (λ (l : List ℕ). over l c.args.out.now) (sym (groups_last c.args.g c.args.v c.if-g-eq0.false c.if-v-lt128.true))
 
 -- a byte and those of the rest
 bytes : (t : ℕ) (c : Else-v-lt128 t) → groups c.args.g c.args.v ≡ (c.args.v % 128 + 128) ∷ groups (c.args.g - 1) (c.args.v / 128)
@@ -37,7 +38,7 @@ slice_bounds-put_groups-start t c = rw length-set (omega (arith, ap length (byte
 
 -- the byte alone over the head
 head : (t : ℕ) (c : Else-v-lt128 t) → set c.args.out.now 0 (c.args.v % 128 + 128) ≡ over ((c.args.v % 128 + 128) ∷ []) c.args.out.now
-head t c = one_byte _ c.args.out.now (omega (arith, ap length (bytes t c), c.requires))
+head t c = drop-set c.args.out.now 0 _ (omega (arith, ap length (bytes t c), c.requires))
 
 pub put_groups-requires : goal.put_groups-requires
 put_groups-requires t c =

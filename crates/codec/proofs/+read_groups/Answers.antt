@@ -2,7 +2,8 @@
 use Rattle.std.proofs.Common.{ℕ, ◌-◌, ◌<◌, ◌≤◌, ◌≡◌, refl, List, false, cond, ltb, sym, ap, ◌∙◌, arith, lt-ltb, le-ltb, Err}
 use Rattle.std.proofs.lemmas.Result.{err_from_is_err_and}
 use Rattle.definitions.specs.Bytes.{Number, number, most_groups, last_group, more_groups, read_groups}
-use Rattle.laws.specs.Tests.{positive, or_right}
+use Rattle.laws.specs.Tests.{positive}
+use Rattle.std.proofs.lemmas.Bool.{or_right}
 use Rattle.codec.specs.declared.Fault.{Fault}
 use Rattle.codec.specs.declared.Fault.TheVariants.{CutShort, Form}
 use Rattle.codec.specs.Answer.{groups_answer}

@@ -1,5 +1,5 @@
 -- `codec::number_size` meets its contract: a number has at most five groups.
-use native.Mathlib.Omega.{arith}
+use Rattle.std.proofs.Common.{arith}
 use Rattle.definitions.specs.Bytes.{most_groups, number_bytes}
 use Rattle.codec.specs.Groups.{at_most}
 use Rattle.codec.proofs.number_size.Goals as goal

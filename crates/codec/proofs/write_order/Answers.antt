@@ -2,17 +2,17 @@
 use Rattle.std.proofs.Common.{◌+◌, ◌-◌, ◌<◌, ◌≤◌, sym, ◌∙◌, arith, length}
 use Rattle.definitions.specs.Bytes.{order_bytes}
 use Rattle.codec.specs.Writes.{size_with_room, bytes_with_room, size_without_room, bytes_without_room}
-use Rattle.codec.proofs.Stores.{tail_length, tail_written}
+use Rattle.codec.proofs.Stores.{tail_written}
 use Rattle.codec.proofs.write_order.Goals as goal
 use Rattle.codec.proofs.write_order.Goals.{Then-room-order_size, Else-room-order_size}
-use borrow.Rule.Slice.PartMut.{put_same}
+use borrow.Rule.Slice.PartMut.{put_same, mid_len}
 
 -- the tail that is shorter than the order's bytes, and the tail that isn't
 no_room : (c : Then-room-order_size) → length c.args.out.now < c.args.at + length (order_bytes c.args.order)
-no_room c = omega (arith, tail_length c.args.at c.args.out.now, c.if-room-order_size.true, c.order_size.ensures, c.if-out-at.false)
+no_room c = omega (arith, mid_len c.args.at (length c.args.out.now) c.args.out.now (omega arith), c.if-room-order_size.true, c.order_size.ensures, c.if-out-at.false)
 
 room : (c : Else-room-order_size) → c.args.at + length (order_bytes c.args.order) ≤ length c.args.out.now
-room c = omega (arith, tail_length c.args.at c.args.out.now, c.if-room-order_size.false, c.order_size.ensures, c.if-out-at.false)
+room c = omega (arith, mid_len c.args.at (length c.args.out.now) c.args.out.now (omega arith), c.if-room-order_size.false, c.order_size.ensures, c.if-out-at.false)
 
 pub returns-then-out-at-clause-size : goal.returns-then-out-at-clause-size
 returns-then-out-at-clause-size c = let a = c.args in sym (size_without_room a.out.now a.at a.order (omega (arith, c.if-out-at.true)))

@@ -1,10 +1,5 @@
--- `are_within` meets its contract. The invariant: the numbers passed are within their limits. The measure is how many are left.
-use Prim.Native.Nat.{ℕ, ◌+◌, ◌*◌}
-use mathlib.Core.Path.{◌≡◌, sym, ap, ap₂, ◌∙◌}
-use native.Mathlib.Omega.{arith}
-use lib.IntN.{ℤ, pos, nat_abs}
-use lib.ListN.{length, get_or}
-use mir.Syntax.{w32}
+-- `are_within` meets its contract: each turn tests one number.
+use Rattle.std.proofs.Common.{ℕ, ◌+◌, ◌*◌, ◌≡◌, sym, ap, ap₂, ◌∙◌, arith, ℤ, pos, nat_abs, length, get_or, w32}
 use Rattle.definitions.specs.Arithmetic.{all_to, within}
 use Rattle.laws.specs.All.{all_to_begins, all_to_turn, all_to_fails}
 use Rattle.laws.specs.SignedTests.{back}
@@ -13,12 +8,10 @@ use Rattle.feasible.proofs.are_within.Goals as goal
 use Rattle.feasible.proofs.are_within.Goals.{After-is_within_size}
 
 pub loop-k-init : goal.loop-k-init
-loop-k-init c = (omega arith, all_to_begins _)
+loop-k-init c = all_to_begins _
 
 -- what was found of this turn's number
-found : (c : After-is_within_size) →
-    let a = c.args in
-    c.is_within_size.result ≡ within_size a.numbers.now a.limits.now a.step a.first c.loop-k.k
+found : (c : After-is_within_size) → let a = c.args in c.is_within_size.result ≡ within_size a.numbers.now a.limits.now a.step a.first c.loop-k.k
 found c =
     let a = c.args in
     let k = c.loop-k.k in
@@ -31,19 +24,17 @@ pub returns-then-not-is_within_size : goal.returns-then-not-is_within_size
 unfolding within_sizes
 returns-then-not-is_within_size c =
     let a = c.args in
-    let l = c.loop-k in
-    sym (all_to_fails (length a.numbers.now) (within_size a.numbers.now a.limits.now a.step a.first) l.k c.loop-k-test.true
+    sym (all_to_fails (length a.numbers.now) (within_size a.numbers.now a.limits.now a.step a.first) c.loop-k.k c.loop-k-test.true
     (sym (found c.before) ∙ c.if-not-is_within_size.true))
 
 pub loop-k-preserved : goal.loop-k-preserved
 loop-k-preserved c =
     let a = c.args in
-    let l = c.loop-k in
-    (omega arith, all_to_turn l.k (within_size a.numbers.now a.limits.now a.step a.first) l.invariant.1 (sym (found c.before) ∙ c.if-not-is_within_size.false))
+    all_to_turn c.loop-k.k (within_size a.numbers.now a.limits.now a.step a.first) c.loop-k.invariant (sym (found c.before) ∙ c.if-not-is_within_size.false)
 
 pub returns : goal.returns
 unfolding within_sizes
 returns c =
     let a = c.args in
     let e : length a.numbers.now ≡ c.loop-k.k = omega arith in
-    sym (ap (λ (k : ℕ). all_to k (within_size a.numbers.now a.limits.now a.step a.first)) e ∙ c.loop-k.invariant.1)
+    sym (ap (λ (k : ℕ). all_to k (within_size a.numbers.now a.limits.now a.step a.first)) e ∙ c.loop-k.invariant)

@@ -1,8 +1,8 @@
 -- `judge_bids` meets its contract: each turn judges one bid.
-use Rattle.std.proofs.Common.{ℕ, ◌+◌, ◌≡◌, sym, ◌∙◌, List, [], ℤ, w32}
+use Rattle.std.proofs.Common.{ℕ, ◌+◌, sym, ◌∙◌, List, [], ℤ, w32}
 use Rattle.std.proofs.lemmas.Result.{err_from_is_err_and}
 use borrow.Author.Rules.{sfits_of}
-use Rattle.definitions.specs.Answers.{Refusal, numbered, none, stated}
+use Rattle.definitions.specs.Answers.{Refusal, numbered}
 use Rattle.definitions.specs.Book.{Book, book, pool, price, quantity}
 use Rattle.definitions.specs.Calls.{bid_fault, bids_refusal}
 use Rattle.laws.specs.Search.{search_begins, search_passes, search_stops, search_ends, turned_away}

@@ -1,5 +1,5 @@
 -- Invariant: the answer is that of the bids from i on.
-use Rattle.std.specs.Prelude.{ℕ, ◌≡◌, ◌+◌, ◌-◌, List, [], ℤ}
+use Rattle.std.specs.Prelude.{ℕ, ◌≡◌, ◌+◌, ◌-◌, []}
 use Rattle.definitions.specs.Answers.{Refusal, numbered}
 use Rattle.definitions.specs.Book.{Book, book, pool, price, quantity}
 use Rattle.definitions.specs.Calls.{first_from, bid_fault, bids_refusal}

@@ -1,8 +1,6 @@
 -- `judge_capacities` meets its contract: each turn judges one entry; behind the last of a row come the rows from a + 1 on.
-use Rattle.std.proofs.Common.{ℕ, ◌+◌, ◌*◌, ◌≡◌, refl, sym, ap, ◌∙◌, List, [], ℤ, pos, eqb, get_or, w32, false, true, Ok, Err}
-use Rattle.std.specs.declared.result.Result.{Result}
-use Rattle.definitions.specs.declared.Reason.{Reason}
-use Rattle.definitions.specs.Answers.{refusal_of, numbered, none, is_none}
+use Rattle.std.proofs.Common.{ℕ, ◌+◌, ◌*◌, ◌≡◌, refl, sym, ap, ◌∙◌, List, [], ℤ, pos, eqb, get_or, w32}
+use Rattle.definitions.specs.Answers.{refusal_of, numbered, is_none}
 use Rattle.definitions.specs.Book.{Book, book}
 use Rattle.definitions.specs.Calls.{capacity_fault, entry_refusal, row_refusal, capacities_refusal}
 use Rattle.laws.specs.SignedTests.{back}

@@ -1,5 +1,5 @@
 -- `write_refused` meets its contract: the text fits, and is written where there is room.
-use Rattle.std.proofs.Common.{arith, length, le-leb}
+use Rattle.std.proofs.Common.{◌≡◌, arith, rules, length, le-leb, refl}
 use Rattle.std.proofs.lemmas.Bool.{lt-leb}
 use Rattle.std.specs.Prelude.{leb}
 use Rattle.definitions.specs.Settle.{refused_text}
@@ -15,12 +15,10 @@ returns-then-out-lt-ROOM c =
     let w = nothing_written_lem (leb text_room (length a.out.now)) (refused_text a.number a.place) a.out.now (lt-leb _ _ c.if-out-lt-ROOM.true) in
     record { size = w.0; bytes = w.1 }
 
-pub put_refused-requires : goal.put_refused-requires
-put_refused-requires c = omega (arith, c.if-out-lt-ROOM.false, refused_fits c.args.number c.args.place)
-
 pub returns : goal.returns
 unfolding refused_size refused_slice
 returns c =
     let a = c.args in
-    let w = text_written (leb text_room (length a.out.now)) (le-leb _ _ c.if-out-lt-ROOM.false) (omega (arith, refused_fits a.number a.place)) c.put_refused.ensures in
-    record { size = w.0; bytes = w.1 }
+    let w = text_written (leb text_room (length a.out.now)) (le-leb _ _ c.if-out-lt-ROOM.false) refl (omega (arith, refused_fits a.number a.place)) c.put_refused.ensures in
+    let bytes : c.put_refused.new.self.out.now ≡ refused_slice a.number a.place a.out.now = w.1 in
+    record { size = w.0; bytes = search (rules, bytes) }

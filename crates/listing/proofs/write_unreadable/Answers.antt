@@ -1,5 +1,5 @@
 -- `write_unreadable` meets its contract: the text is one word, written where there is room.
-use Rattle.std.proofs.Common.{arith, length, le-leb}
+use Rattle.std.proofs.Common.{◌≡◌, arith, rules, length, le-leb, refl}
 use Rattle.std.proofs.lemmas.Bool.{lt-leb}
 use Rattle.std.specs.Prelude.{leb}
 use Rattle.definitions.specs.Settle.{unreadable_text}
@@ -17,5 +17,6 @@ returns-then-out-lt-ROOM c =
 pub returns : goal.returns
 unfolding unreadable_size unreadable_slice unreadable_text
 returns c =
-    let w = text_written (leb text_room (length c.args.out.now)) (le-leb _ _ c.if-out-lt-ROOM.false) (omega arith) c.put_word.ensures in
-    record { size = w.0; bytes = w.1 }
+    let w = text_written (leb text_room (length c.args.out.now)) (le-leb _ _ c.if-out-lt-ROOM.false) refl (omega arith) c.put.ensures in
+    let bytes : c.put.new.self.out.now ≡ unreadable_slice c.args.out.now = w.1 in
+    record { size = w.0; bytes = search (rules, bytes) }

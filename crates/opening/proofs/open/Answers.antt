@@ -1,49 +1,44 @@
--- `open` meets its contract: a refusal copies nothing, and what is accepted meets what copying requires.
-use mathlib.Core.Path.{◌≡◌, sym, ap, ◌∙◌}
-use mathlib.Core.Bool.{false, not}
-use mathlib.Core.List.{List}
-use Prim.Native.Nat.{ℕ}
-use lib.IntN.{ℤ}
-use lib.ListN.{length}
-use Rattle.definitions.specs.Answers.{none, is_none}
-use Rattle.definitions.specs.Calls.{open_refusal, opened_results, open_slice}
-use Rattle.laws.specs.Refusal.{unless_none, unless_refused}
-use Rattle.laws.specs.Search.{turned_away, let_through}
-use Rattle.opening.specs.Openable.{openable}
+-- `open` meets its contract: the result cells lie on the sheet, and each turn copies one reading.
+use Rattle.std.proofs.Common.{ℕ, ◌+◌, ◌≤◌, ◌≡◌, refl, sym, ap₂, ◌∙◌, List, ℤ, pos, length, arith, w32}
+use Rattle.definitions.specs.Sheet.{first_result}
+use Rattle.definitions.specs.Answers.{none}
+use Rattle.definitions.specs.Calls.{open_refusal, open_slice}
+use Rattle.laws.specs.SignedTests.{back}
+use Rattle.laws.specs.Write.{writing_turn, writing_ends}
+use Rattle.residues.specs.Residues.{read_residue}
+use Rattle.opening.specs.Openable.{openable, results_fit}
+use Rattle.opening.specs.Readings.{readings, readings_length, reading_at, opened}
 use Rattle.opening.proofs.open.Goals as goal
-use Rattle.opening.proofs.open.Goals.{Else-not-is_accepted}
 
--- the results that opening leaves
-kept : (n m : ℕ) (sheet : List ℕ) (out : List ℤ) → is_none (open_refusal n m sheet (length out)) ≡ false → out ≡ open_slice n m sheet out
-unfolding open_slice
-kept n m sheet out e = sym (unless_refused (open_refusal n m sheet (length out)) (opened_results n m sheet) out e)
+-- the readings of as many cells as `out` has places, from the first result on, are to be copied
+module _ (n m : ℕ) (sheet : List ℕ) (out : List ℤ) (passed : none ≡ open_refusal n m sheet (length out)) {N M first : ℕ} (same : (N ≡ n) × (M ≡ m)) (found : first ≡ first_result N M) where
+  begins : first ≡ first_result n m
+  begins = found ∙ ap₂ first_result same.0 same.1
 
-copied : (n m : ℕ) (sheet : List ℕ) (out : List ℤ) → open_refusal n m sheet (length out) ≡ none → opened_results n m sheet ≡ open_slice n m sheet out
-unfolding open_slice
-copied n m sheet out e = sym (unless_none (open_refusal n m sheet (length out)) (opened_results n m sheet) out (ap is_none e))
+  fits : first + length out ≤ length sheet
+  fits = results_fit n m sheet (length out) (sym passed) first begins
 
-pub returns-then-not-is_accepted-clause-results : goal.returns-then-not-is_accepted-clause-results
-returns-then-not-is_accepted-clause-results c =
+  copied : readings sheet first (length out) ≡ open_slice n m sheet out
+  unfolding open_slice
+  copied = opened n m sheet first (length out) begins (openable n m sheet (length out) (sym passed)).sizes.count ∙ rw (← passed) refl
+
+pub loop-i-preserved : goal.loop-i-preserved
+loop-i-preserved c =
     let a = c.args in
-    kept a.n a.m a.sheet.now a.out.now
-    (turned_away {asked = open_refusal a.n a.m a.sheet.now (length a.out.now)} c.judge_opening-verdict.ensures c.is_accepted.ensures (ap not c.if-not-is_accepted.true))
-
-passed : (c : Else-not-is_accepted) → open_refusal c.args.n c.args.m c.args.sheet.now (length c.args.out.now) ≡ none
-passed c = let_through c.judge_opening-verdict.ensures c.is_accepted.ensures (ap not c.if-not-is_accepted.false)
-
-pub copy_results-requires-clause-n_le_bid_limit : goal.copy_results-requires-clause-n_le_bid_limit
-copy_results-requires-clause-n_le_bid_limit c =
-    let h = openable _ _ _ _ (passed (goal.at.copy_results-requires-clause-n_le_bid_limit c).Else-not-is_accepted) in (h.sizes.counts.bids, h.sizes.counts.pools.most)
-
-pub copy_results-requires-clause-sheet_len : goal.copy_results-requires-clause-sheet_len
-copy_results-requires-clause-sheet_len c =
-    let h = openable _ _ _ _ (passed (goal.at.copy_results-requires-clause-sheet_len c).Else-not-is_accepted) in (h.cells, h.sizes.count)
-
-pub copy_results-requires-clause-by_index : goal.copy_results-requires-clause-by_index
-copy_results-requires-clause-by_index c =
-    let h = openable _ _ _ _ (passed (goal.at.copy_results-requires-clause-by_index c).Else-not-is_accepted) in h.below
+    let k = c.in_ok-counts.ensures in
+    let l = c.loop-i in
+    let first = c.first_result-first.result in
+    let h = openable a.n a.m a.sheet.now (length a.out.now) (sym k.refusal) in
+    writing_turn (readings_length a.sheet.now first (length a.out.now) (fits a.n a.m a.sheet.now a.out.now k.refusal k.counts c.first_result-first.ensures)) l.invariant (pos 0) _ (omega arith)
+    (back w32 c.reading.result c.reading.type_inv
+    ∙ c.reading.ensures
+    ∙ read_residue _ (h.below _)
+    ∙ sym (reading_at a.sheet.now first (length a.out.now) l.i c.loop-i-test.true))
 
 pub returns-clause-results : goal.returns-clause-results
 returns-clause-results c =
     let a = c.args in
-    c.copy_results.ensures ∙ copied a.n a.m a.sheet.now a.out.now (passed (goal.at.returns-clause-results c).Else-not-is_accepted)
+    let k = c.in_ok-counts.ensures in
+    let first = c.first_result-first.result in
+    writing_ends (readings_length a.sheet.now first (length a.out.now) (fits a.n a.m a.sheet.now a.out.now k.refusal k.counts c.first_result-first.ensures)) c.loop-i.invariant (omega arith)
+    ∙ copied a.n a.m a.sheet.now a.out.now k.refusal k.counts c.first_result-first.ensures

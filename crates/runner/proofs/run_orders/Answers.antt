@@ -1,47 +1,51 @@
--- `run_orders` meets its contract: each turn keeps `Running`, by what `read_order` answers.
-use mathlib.Core.Path.{◌≡◌, sym, ap, ◌∙◌}
-use native.Mathlib.Omega.{arith}
-use Rattle.definitions.specs.Answers.{none, refusal_of}
-use Rattle.definitions.specs.Bytes.{order_at}
-use Rattle.codec.specs.Answer.{given, answer_at, order_answer}
-use Rattle.codec.specs.PlanBytes.{rest_end}
+-- `run_orders` meets its contract: each turn keeps `Running`.
+use Rattle.std.proofs.Common.{◌≡◌, ap, ◌∙◌, arith, length}
+use Rattle.definitions.specs.Answers.{none, stated}
+use Rattle.definitions.specs.Bytes.{Parsed, parse, one_more}
+use Rattle.codec.specs.PlanBytes.{parsed_well_formed, orders_at_most}
 use Rattle.machine.specs.Run.{stepped_is}
-use Rattle.runner.proofs.Turns.{begin, onward, finish, turn_refused, turn_read}
+use Rattle.runner.specs.Left.{left}
+use Rattle.runner.proofs.Turns.{begin, onward, left_cells}
 use Rattle.runner.proofs.run_orders.Goals as goal
-use Rattle.runner.proofs.run_orders.Goals.{In-Found}
+use Rattle.runner.proofs.run_orders.Goals.{In_ok-order}
 
-pub loop-at-init : goal.loop-at-init
-loop-at-init c = begin c.args.bytes.now c.args.sheet.now c.requires
+pub loop-order-init : goal.loop-order-init
+loop-order-init c = record {
+  can_next = tt;
+  is_finite = tt;
+  running = begin (parse c.args.bytes.now) (left c.into_iter-order-iterator.result) c.args.sheet.now
+      (ap left c.into_iter-order-iterator.ensures.into_iter_gives ∙ c.of-order-items.ensures) (parsed_well_formed c.args.bytes.now) c.requires;
+}
 
-pub returns-in-Refused : goal.returns-in-Refused
-returns-in-Refused c =
-    let l = c.loop-at in
-    let a = c.args in
-    let x = refusal_of c.in-Refused.field-0 in
-    let answer = sym (ap order_answer c.in-Refused.is) ∙ c.read_order.ensures in
-    let ended = finish a.bytes.now a.sheet.now l.sheet l.at l.count l.invariant x (turn_refused a.bytes.now l.at c.loop-at-test.true x answer) in
-    record { count = ended.0; cells = ended.1 }
+-- the order that was read, and those that are left behind it
+read : (c : In_ok-order) → left c.loop-order.order-iterator ≡ one_more c.in_ok-order.field-0 (left c.next.new.self)
+read c = rw c.in_ok-order.was at c.in-Some.ensures.steps
 
--- the order that was read
-answered : (c : In-Found) → given c.in-Found.order c.in-Found.next ≡ answer_at c.loop-at.at (order_at c.args.bytes.now c.loop-at.at)
-answered c = sym (ap order_answer c.in-Found.is) ∙ c.read_order.ensures
+pub returns-in_err-order-clause-cells : goal.returns-in_err-order-clause-cells
+returns-in_err-order-clause-cells c =
+    let l = c.loop-order in
+    left_cells (parse c.args.bytes.now) (left l.order-iterator) c.args.sheet.now l.sheet l.count l.invariant.running
+    (stated c.in_err-order.field-0.0) (rw c.in_err-order.was at c.in-Some.ensures.steps)
 
-pub loop-at-smaller : goal.loop-at-smaller
-loop-at-smaller c =
-    let read = turn_read _ _ _ _ (answered (goal.at.loop-at-smaller c).In-Found) in
-    omega (arith, read.onward, read.within)
+pub overflow_add-count : goal.overflow_add-count
+overflow_add-count c =
+    let r = c.loop-order.invariant.running in
+    omega (arith, r.orders, ap (λ (p : Parsed). length p.orders) (read (goal.at.overflow_add-count c).In_ok-order), orders_at_most c.args.bytes.now, c.well_formed)
 
-pub loop-at-preserved : goal.loop-at-preserved
-loop-at-preserved c =
-    let l = c.loop-at in
-    let a = c.args in
-    let answer = answered (goal.at.loop-at-preserved c).In-Found in
-    let stepped = c.step.ensures ∙ stepped_is l.sheet _ l.invariant.is_sheet (turn_read _ _ _ _ answer).well_formed in
-    onward a.bytes.now a.sheet.now l.sheet l.at l.count l.invariant _ _ c.step.new.sheet c.loop-at-test.true answer stepped
+pub loop-order-preserved : goal.loop-order-preserved
+loop-order-preserved c =
+    let l = c.loop-order in
+    let order = c.in_ok-order.field-0 in
+    record {
+      can_next = tt;
+      is_finite = tt;
+      running =
+          onward (parse c.args.bytes.now) (left l.order-iterator) c.args.sheet.now l.sheet l.count l.invariant.running order
+          (left c.next.new.self) (read (goal.at.loop-order-preserved c).In_ok-order) c.step.new.sheet
+          (λ w. c.step.ensures ∙ stepped_is l.sheet order l.invariant.running.is_sheet w);
+    }
 
-pub returns : goal.returns
-returns c =
-    let l = c.loop-at in
-    let a = c.args in
-    let ended = finish a.bytes.now a.sheet.now l.sheet l.at l.count l.invariant none (rest_end a.bytes.now l.at c.loop-at-test.false) in
-    record { count = ended.0; cells = ended.1 }
+pub returns-clause-cells : goal.returns-clause-cells
+returns-clause-cells c =
+    let l = c.loop-order in
+    left_cells (parse c.args.bytes.now) (left l.order-iterator) c.args.sheet.now l.sheet l.count l.invariant.running none c.in-None.ensures.steps

@@ -1,11 +1,12 @@
--- Invariant: `Running`. Measure: how many bytes are left.
-use Prim.Native.Nat.{◌-◌}
-use lib.ListN.{length}
+-- Invariant: `Running`, of the orders that are left.
+use Rattle.definitions.specs.Bytes.{parse}
+use Rattle.runner.specs.Left.{left}
 use Rattle.runner.proofs.Turns.{Running}
 use Rattle.runner.proofs.run_orders.Given as goal
 
-abbrev pub invariant-loop-at : goal.invariant-loop-at
-invariant-loop-at l = Running l.bytes l.initial.sheet l.sheet l.at l.count
-
-abbrev pub decreases-loop-at : goal.decreases-loop-at
-decreases-loop-at l = length l.bytes - l.at
+abbrev pub invariant-loop-order : goal.invariant-loop-order
+invariant-loop-order l = record {
+  can_next : (goal.iterator-loop-order).can_next l.order-iterator;
+  is_finite : (goal.iterator-loop-order).is_finite l.order-iterator;
+  running : Running (parse l.bytes) (left l.order-iterator) l.initial.sheet l.sheet l.count;
+}

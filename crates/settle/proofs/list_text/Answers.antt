@@ -5,6 +5,6 @@ use Rattle.settlement.specs.WholeText.{settled_first}
 use Rattle.stages.specs.Counting.{input_for}
 use Rattle.settle.proofs.list_text.Goals as goal
 
-pub returns-clause-text : goal.returns-clause-text
-returns-clause-text c =
-    settled_first plan (input_for c.args.input c.args.numbers.now) _ _ c.args.out.now _ c.settle.ensures.size c.settle.ensures.bytes refl (search rules)
+pub returns : goal.returns
+returns c =
+    settled_first plan (input_for c.args.input c.args.numbers.now) _ _ c.args.out.now _ c.settle-size.ensures.size c.settle-size.ensures.bytes refl (search rules)

@@ -1,71 +1,35 @@
 -- One law for each answer of a read.
-use Rattle.std.proofs.Common.{◌≡◌, refl, sym, ap, ◌∙◌, ℕ, zero, suc, Bool, true, false, List, length, take, ℤ, pos, negsuc, arith, w64, to_z, of_z, true≢false, ltb-true}
-use Rattle.std.proofs.Math.Facts.{to_z-of_z}
+use Rattle.std.proofs.Common.{◌≡◌, refl, ap, ◌∙◌, ℕ, zero, suc, List, take, Some, Continue}
 use Rattle.std.proofs.lemmas.List.{take_min}
-use Rattle.gathering.specs.Counts.{clamp_len}
 use Rattle.text.specs.Reading.{Reading, read_so_far, fed}
-use Rattle.settle.specs.declared.Turn.TheVariants.{More, Over}
-use Rattle.settle.specs.Turns.{left_by, broken_off, text_over, text_onward, turned}
+use Rattle.settle.specs.Turns.{text_onward, turned}
 use Rattle.settle.proofs.take_turn.Goals as goal
-use lib.Signed.{lt_z}
-
--- the read has failed
-failed : (s : Reading) (got : ℤ) (piece : List ℕ) → lt_z got (pos 0) ≡ true → turned s got piece ≡ text_over (broken_off s)
-unfolding turned
-failed s (pos k) piece e = absurd (omega (arith, ltb-true k 0 e))
-failed s (negsuc k) piece e = refl
-
--- the input has ended
-ended : (s : Reading) (got : ℤ) (piece : List ℕ) → got ≡ pos 0 → turned s got piece ≡ text_over (left_by s)
-unfolding turned
-ended s got piece e = ap (λ (z : ℤ). turned s z piece) e
 
 -- so many bytes come next
-onward : (s : Reading) (got : ℤ) (piece : List ℕ) → lt_z got (pos 0) ≡ false → (got ≡ pos 0 → ⊥)
-    → turned s got piece ≡ text_onward (fed s (take (clamp_len got (length piece)) piece))
+onward : (s : Reading) (size : ℕ) (piece : List ℕ) → (size ≡ 0 → ⊥) → turned s (Some size) piece ≡ text_onward (fed s (take size piece))
 unfolding turned
-onward s (negsuc k) piece e n = absurd (true≢false e)
-onward s (pos zero) piece e n = absurd (n refl)
-onward s (pos (suc k)) piece e n = ap (λ (l : List ℕ). text_onward (fed s l)) (sym (take_min (suc k) piece))
+onward s zero piece some = absurd (some refl)
+onward s (suc k) piece some = refl
 
--- a test of what the read answered, read back from its bits
-answer : {got : ℤ} {t : Bool} → to_z w64 (of_z w64 got) ≡ got → lt_z (to_z w64 (of_z w64 got)) (pos 0) ≡ t → lt_z got (pos 0) ≡ t
-answer back e = ap (λ (z : ℤ). lt_z z (pos 0)) (sym back) ∙ e
+pub returns-in-None : goal.returns-in-None
+unfolding turned
+returns-in-None c = rw c.in-None.is record { value = cc; numbers_after = cc }
 
-pub returns-then-got-lt0-clause-value : goal.returns-then-got-lt0-clause-value
-returns-then-got-lt0-clause-value c =
-    rw (failed (read_so_far c.args.reader c.args.numbers.now) c.args.got c.args.piece.now (answer (to_z-of_z c.ranges.got) c.if-got-lt0.true))
-    (ap Over c.break_off.ensures.value)
+pub returns-in-Some-eq0 : goal.returns-in-Some-eq0
+unfolding turned
+returns-in-Some-eq0 c =
+    let i = c.in-Some-eq0 in
+    let end : i.field-0 ≡ 0 = rw i.is at i.field-0-test in
+    rw (i.is, end) record { value = cc; numbers_after = cc }
 
-pub returns-then-got-lt0-clause-numbers_after : goal.returns-then-got-lt0-clause-numbers_after
-returns-then-got-lt0-clause-numbers_after c =
-    rw (failed (read_so_far c.args.reader c.args.numbers.now) c.args.got c.args.piece.now (answer (to_z-of_z c.ranges.got) c.if-got-lt0.true))
-    c.break_off.ensures.numbers_after
-
-pub returns-then-got-eq-END-clause-value : goal.returns-then-got-eq-END-clause-value
-returns-then-got-eq-END-clause-value c =
-    rw (ended (read_so_far c.args.reader c.args.numbers.now) c.args.got c.args.piece.now (sym (to_z-of_z c.ranges.got) ∙ ap (to_z w64) c.if-got-eq-END.true))
-    (ap Over c.finish.ensures.value)
-
-pub returns-then-got-eq-END-clause-numbers_after : goal.returns-then-got-eq-END-clause-numbers_after
-returns-then-got-eq-END-clause-numbers_after c =
-    rw (ended (read_so_far c.args.reader c.args.numbers.now) c.args.got c.args.piece.now (sym (to_z-of_z c.ranges.got) ∙ ap (to_z w64) c.if-got-eq-END.true))
-    c.finish.ensures.numbers_after
-
-pub returns-clause-value : goal.returns-clause-value
-returns-clause-value c =
-    rw (
-      onward (read_so_far c.args.reader c.args.numbers.now) c.args.got c.args.piece.now (answer (to_z-of_z c.ranges.got) c.if-got-lt0.false)
-          (λ q. c.if-got-eq-END.false (ap (of_z w64) q)),
-      sym (c.count-size.ensures.value ∙ ap (λ (z : ℤ). clamp_len z (length c.args.piece.now)) (to_z-of_z c.ranges.got)),
-    )
-    (ap More c.feed.ensures.value)
-
-pub returns-clause-numbers_after : goal.returns-clause-numbers_after
-returns-clause-numbers_after c =
-    rw (
-      onward (read_so_far c.args.reader c.args.numbers.now) c.args.got c.args.piece.now (answer (to_z-of_z c.ranges.got) c.if-got-lt0.false)
-          (λ q. c.if-got-eq-END.false (ap (of_z w64) q)),
-      sym (c.count-size.ensures.value ∙ ap (λ (z : ℤ). clamp_len z (length c.args.piece.now)) (to_z-of_z c.ranges.got)),
-    )
-    c.feed.ensures.numbers_after
+pub returns-in-Some : goal.returns-in-Some
+returns-in-Some c =
+    let i = c.in-Some in
+    let some : i.size ≡ 0 → ⊥ = (rw i.is at i.size-test).1 in
+    let piece = c.args.piece.now in
+    let cut : take c.min-end.result piece ≡ take i.size piece = ap (λ (k : ℕ). take k piece) c.min-end.ensures ∙ take_min i.size piece in
+    let s = read_so_far c.args.reader c.args.numbers.now in
+    rw (i.is, onward _ i.size piece some) record {
+      value = ap Continue (c.feed.ensures.value ∙ ap (λ (bytes : List ℕ). (fed s bytes).reader) cut);
+      numbers_after = c.feed.ensures.numbers_after ∙ ap (λ (bytes : List ℕ). (fed s bytes).numbers) cut;
+    }

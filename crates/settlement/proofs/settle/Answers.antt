@@ -1,37 +1,20 @@
--- `settle` meets its contract: one case for each answer of the reader.
-use Rattle.std.proofs.Common.{length, ◌∙◌, refl}
-use Rattle.definitions.specs.Settle.{unreadable, unreadable_text, refused}
-use Rattle.definitions.specs.Answers.{refusal_of}
-use Rattle.listing.specs.Text.{unreadable_size, unreadable_slice}
+-- `settle` meets its contract: the bytes that it gives are counted.
+use Rattle.std.proofs.Common.{length, Err}
+use Rattle.plan.specs.Plan.{plan}
+use Rattle.stages.specs.Counting.{input_for}
 use Rattle.settlement.specs.Settled.{tables_of}
-use Rattle.settlement.proofs.Texts.{size_of, slice_of, same_size, same_slice, counted}
+use Rattle.settlement.specs.WholeText.{settled_counts}
 use Rattle.settlement.proofs.settle.Goals as goal
 
-pub returns-in-Unreadable : goal.returns-in-Unreadable
-unfolding unreadable_size unreadable_slice
-returns-in-Unreadable c =
-    let w = c.write_unreadable in
+pub returns-in-Ok-clause-counted : goal.returns-in-Ok-clause-counted
+returns-in-Ok-clause-counted c =
     let a = c.args in
-    let all = counted unreadable (length a.sheet.now) a.out.now (
-      w.ensures.size ∙ size_of unreadable (length a.sheet.now) unreadable_text a.out.now refl,
-      (refl {a = a.sheet.now}, w.ensures.bytes ∙ slice_of unreadable (length a.sheet.now) unreadable_text a.out.now refl),
-    ) in
-    rw c.in-Unreadable.is (record { size = all.0; cells = all.1.0; bytes = all.1.1.0; counted = all.1.1.1 })
-
-pub returns-in-Refused : goal.returns-in-Refused
-returns-in-Refused c =
-    let w = c.write_verdict in
-    let a = c.args in
-    let text = refused (refusal_of c.in-Refused.verdict) in
-    let all = counted text (length a.sheet.now) a.out.now (
-      w.ensures.size ∙ same_size text 0 text (length a.sheet.now) a.out.now refl,
-      (refl {a = a.sheet.now}, w.ensures.bytes ∙ same_slice text 0 text (length a.sheet.now) a.out.now refl),
-    ) in
-    rw c.in-Refused.is (record { size = all.0; cells = all.1.0; bytes = all.1.1.0; counted = all.1.1.1 })
-
-pub returns-in-Ready : goal.returns-in-Ready
-returns-in-Ready c =
     let e = c.settle_tables.ensures in
+    settled_counts plan (tables_of c.in-Ok.tables.n c.in-Ok.tables.m a.numbers.now) (length a.sheet.now) _ a.out.now _ e.size e.bytes
+
+pub returns-in-Err-clause-counted : goal.returns-in-Err-clause-counted
+returns-in-Err-clause-counted c =
     let a = c.args in
-    let all = counted (tables_of c.in-Ready.n c.in-Ready.m a.numbers.now) (length a.sheet.now) a.out.now (e.size, (e.cells, e.bytes)) in
-    rw c.in-Ready.is (record { size = all.0; cells = all.1.0; bytes = all.1.1.0; counted = all.1.1.1 })
+    let cells = length a.sheet.now in
+    let e = c.write_why.ensures in
+    settled_counts plan (input_for (Err c.in-Err.why) a.numbers.now) cells _ a.out.now _ (e.size a.numbers.now cells) (e.bytes a.numbers.now cells)

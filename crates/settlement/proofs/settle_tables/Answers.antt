@@ -1,51 +1,47 @@
--- `settle_tables` meets its contract: refused counts are a refused book, and others call for no more numbers than a text gives.
-use Prim.Native.Nat.{ℕ, ◌*◌}
-use mathlib.Core.Path.{◌≡◌, sym, ap, ◌∙◌}
-use mathlib.Core.Bool.{false}
-use lib.ListN.{length, take, drop}
-use Rattle.definitions.specs.Answers.{refusal_of, is_none}
-use Rattle.definitions.specs.Limits.{bid_numbers}
-use Rattle.definitions.specs.Book.{Book, book}
-use Rattle.definitions.specs.Calls.{counts_refusal, seal_refusal}
+-- `settle_tables` meets its contract: without room nothing is done; with it what clearing says decides, and an accepted book's sheet opens.
+use Rattle.std.proofs.Common.{sym, ◌∙◌, rules, length, to_z-of_z, w64}
+use Rattle.definitions.specs.Answers.{stated}
 use Rattle.definitions.specs.Settle.{readable, refused}
 use Rattle.laws.specs.Search.{turned_away}
-use Rattle.settlement.proofs.Texts.{same_size, same_slice, refused_text_lem, counts_refuse, sheet_kept}
-use mathlib.Core.Bool.{not}
+use Rattle.settlement.specs.Settled.{book_at}
+use Rattle.settlement.proofs.Texts.{no_room, size_of, slice_of, same_size, same_slice, refused_text_lem, sheet_cleared, opens, accepted_text}
 use Rattle.settlement.proofs.settle_tables.Goals as goal
-use Rattle.settlement.proofs.settle_tables.Goals.{Start}
 
--- the book, of capacities as many as k
-abbrev book_of : Start → ℕ → Book
-book_of s k =
-    let a = s.args in
-    book a.n a.m (take (bid_numbers * a.n) a.numbers.now) (take k (drop (bid_numbers * a.n) a.numbers.now))
+pub returns-then-out-lt-ROOM : goal.returns-then-out-lt-ROOM
+returns-then-out-lt-ROOM c =
+    let a = c.args in
+    let kept = no_room (book_at a.tables.n a.tables.m a.numbers.now) (length a.sheet.now) a.sheet.now a.out.now c.if-out-lt-ROOM.true in
+    record { size = kept.0; cells = kept.1.0; bytes = kept.1.1 }
 
-abbrev book_at : Start → Book
-book_at s = book_of s (s.args.m * s.args.m)
+pub list_sheet-requires : goal.list_sheet-requires
+list_sheet-requires c =
+    let a = c.args in
+    let k = c.in-Ok in
+    opens (book_at a.tables.n a.tables.m a.numbers.now) a.sheet.now _ (sym k.ensures.refusal) k.ensures.cells k.counts.n k.counts.m k.ensures.counts
 
-pub returns-then-not-is_accepted-clause-size : goal.returns-then-not-is_accepted-clause-size
-returns-then-not-is_accepted-clause-size c =
-    let cells : ℕ = length c.args.sheet.now in
-    let by_counts : is_none (counts_refusal c.args.n c.args.m) ≡ false = turned_away c.judge_counts-by_counts.ensures c.is_accepted.ensures (ap not c.if-not-is_accepted.true) in
-    let same = counts_refuse (book_at c.before.before.before.before.before.before.before.before.before.before) cells by_counts in
-    let refuses : is_none (seal_refusal (book_at c.before.before.before.before.before.before.before.before.before.before) cells) ≡ false = ap is_none (sym same) ∙ by_counts in
-    let text = refused_text_lem (book_at c.before.before.before.before.before.before.before.before.before.before) _ cells 0 (c.judge_counts-by_counts.ensures ∙ same) refuses in
-    let w = c.write_verdict in w.ensures.size ∙ same_size (refused (refusal_of c.judge_counts-by_counts.result)) 0 (readable (book_at c.before.before.before.before.before.before.before.before.before.before)) cells c.args.out.now text
+pub returns-in-Ok : goal.returns-in-Ok
+returns-in-Ok c =
+    let a = c.args in
+    let k = c.in-Ok in
+    let B = book_at a.tables.n a.tables.m a.numbers.now in
+    let welfare = to_z-of_z {w = w64} (search rules) ∙ k.ensures.welfare in
+    let text = accepted_text B a.sheet.now _ (sym k.ensures.refusal) k.ensures.cells k.counts.n k.counts.m k.ensures.counts _ welfare in
+    record {
+      size = c.list_sheet.ensures.size ∙ size_of (readable B) (length a.sheet.now) _ a.out.now text;
+      cells = sheet_cleared B (length a.out.now) a.sheet.now _ c.if-out-lt-ROOM.false k.ensures.cells;
+      bytes = c.list_sheet.ensures.bytes ∙ slice_of (readable B) (length a.sheet.now) _ a.out.now text;
+    }
 
-pub returns-then-not-is_accepted-clause-cells : goal.returns-then-not-is_accepted-clause-cells
-returns-then-not-is_accepted-clause-cells c =
-    let cells : ℕ = length c.args.sheet.now in
-    let by_counts : is_none (counts_refusal c.args.n c.args.m) ≡ false = turned_away c.judge_counts-by_counts.ensures c.is_accepted.ensures (ap not c.if-not-is_accepted.true) in
-    let same = counts_refuse (book_at c.before.before.before.before.before.before.before.before.before.before) cells by_counts in
-    let refuses : is_none (seal_refusal (book_at c.before.before.before.before.before.before.before.before.before.before) cells) ≡ false = ap is_none (sym same) ∙ by_counts in
-    let text = refused_text_lem (book_at c.before.before.before.before.before.before.before.before.before.before) _ cells 0 (c.judge_counts-by_counts.ensures ∙ same) refuses in
-    let w = c.write_verdict in sheet_kept (book_at c.before.before.before.before.before.before.before.before.before.before) (length c.args.out.now) c.args.sheet.now refuses
-
-pub returns-then-not-is_accepted-clause-bytes : goal.returns-then-not-is_accepted-clause-bytes
-returns-then-not-is_accepted-clause-bytes c =
-    let cells : ℕ = length c.args.sheet.now in
-    let by_counts : is_none (counts_refusal c.args.n c.args.m) ≡ false = turned_away c.judge_counts-by_counts.ensures c.is_accepted.ensures (ap not c.if-not-is_accepted.true) in
-    let same = counts_refuse (book_at c.before.before.before.before.before.before.before.before.before.before) cells by_counts in
-    let refuses : is_none (seal_refusal (book_at c.before.before.before.before.before.before.before.before.before.before) cells) ≡ false = ap is_none (sym same) ∙ by_counts in
-    let text = refused_text_lem (book_at c.before.before.before.before.before.before.before.before.before.before) _ cells 0 (c.judge_counts-by_counts.ensures ∙ same) refuses in
-    let w = c.write_verdict in w.ensures.bytes ∙ same_slice (refused (refusal_of c.judge_counts-by_counts.result)) 0 (readable (book_at c.before.before.before.before.before.before.before.before.before.before)) cells c.args.out.now text
+pub returns-in-Err : goal.returns-in-Err
+returns-in-Err c =
+    let a = c.args in
+    let k = c.in-Err in
+    let B = book_at a.tables.n a.tables.m a.numbers.now in
+    let cells = length a.sheet.now in
+    let r = stated k.reason in
+    let text = refused_text_lem B r cells k.ensures.refusal (turned_away k.reason k.ensures.refusal) in
+    record {
+      size = c.write_why.ensures.size a.numbers.now cells ∙ same_size (refused r) (readable B) cells a.out.now text;
+      cells = sheet_cleared B (length a.out.now) a.sheet.now _ c.if-out-lt-ROOM.false k.ensures.cells;
+      bytes = c.write_why.ensures.bytes a.numbers.now cells ∙ same_slice (refused r) (readable B) cells a.out.now text;
+    }

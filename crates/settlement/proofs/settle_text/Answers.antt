@@ -1,7 +1,5 @@
 -- `settle_text` meets its contract: the input read is the one that document 01 says the text is.
-use Prim.Native.Nat.{ℕ}
-use mathlib.Core.Path.{ap, ◌∙◌}
-use lib.ListN.{length}
+use Rattle.std.proofs.Common.{length, ap, ◌∙◌}
 use Rattle.definitions.specs.Settle.{Input, settle_input, settle_text}
 use Rattle.plan.specs.Plan.{plan}
 use Rattle.settlement.specs.Settled.{settled_size, settled_slice}
@@ -13,7 +11,8 @@ unfolding settle_text
 returns-clause-printed c =
     let a = c.args in
     let e = c.settle.ensures in
-    let cells : ℕ = length a.sheet.now in
+    let cells = length a.sheet.now in
     let q = c.read-input.ensures.input in
-    let size = e.size ∙ ap (λ (i : Input). settled_size plan i cells (length a.out.now)) q in
-    let bytes = e.bytes ∙ ap (λ (i : Input). settled_slice plan i cells a.out.now) q in settled_over plan (settle_input a.text.now) cells _ a.out.now _ size bytes
+    settled_over plan (settle_input a.text.now) cells _ a.out.now _
+    (e.size ∙ ap (λ (i : Input). settled_size plan i cells (length a.out.now)) q)
+    (e.bytes ∙ ap (λ (i : Input). settled_slice plan i cells a.out.now) q)

@@ -1,11 +1,7 @@
--- Invariant: what is asked of all words is what is asked of those left. Measure: how many are left.
-use Prim.Native.Nat.{◌-◌}
-use mathlib.Core.Path.{◌≡◌}
+-- Invariant: what is asked of all words is what is asked of those left.
+use Rattle.std.proofs.Common.{◌≡◌, ◌-◌}
 use Rattle.words.specs.Words.{are_bytes}
 use Rattle.words.proofs.are_bytes.Given as goal
 
 abbrev pub invariant-loop-k : goal.invariant-loop-k
 invariant-loop-k l = are_bytes l.input l.from (l.to - l.from) ≡ are_bytes l.input l.k (l.to - l.k)
-
-abbrev pub decreases-loop-k : goal.decreases-loop-k
-decreases-loop-k l = l.to - l.k

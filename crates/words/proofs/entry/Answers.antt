@@ -1,11 +1,11 @@
--- `entry` meets its contract: behind the last word every entry is 0.
-use mathlib.Core.Path.{sym}
-use native.Mathlib.Omega.{arith}
-use Rattle.words.proofs.Positions.{word_behind}
+-- `entry` meets its contract: a position that does not fit is behind the last word.
+use Rattle.std.proofs.Common.{ap, ◌∙◌, ◌+◌, ◌≡◌, min, arith}
+use Rattle.words.specs.Words.{word_at}
+use Rattle.words.proofs.Positions.{word_capped}
 use Rattle.words.proofs.entry.Goals as goal
 
-pub returns-then-count-at : goal.returns-then-count-at
-returns-then-count-at c = sym (word_behind _ _ (omega arith))
-
-pub returns-then-count-at-2 : goal.returns-then-count-at-2
-returns-then-count-at-2 c = sym (word_behind _ _ (omega arith))
+pub returns : goal.returns
+returns c =
+    let a = c.args in
+    let e : c.saturating_add-2.result ≡ min (a.at + 1 + a.i) 18446744073709551615 = omega arith in
+    c.word.ensures ∙ ap (word_at a.input.now) e ∙ word_capped a.input.now (a.at + 1 + a.i) 18446744073709551615 (omega arith)

@@ -1,11 +1,12 @@
 -- `word` meets its contract: within the whole words its four bytes are there, behind them it is 0.
-use mathlib.Core.Path.{sym}
+use Rattle.std.proofs.Common.{ℕ, ap, ◌∙◌, List, [], get_or, arith}
 use Rattle.words.proofs.Positions.{word_behind, word_within}
 use Rattle.words.proofs.word.Goals as goal
 
-pub returns-then-input-k : goal.returns-then-input-k
-returns-then-input-k c = sym (word_behind _ _ c.if-input-k.true)
+pub returns-in-Some : goal.returns-in-Some
+returns-in-Some c =
+    let found = c.in-Some.ensures.lookup in
+    c.from_le_bytes.ensures ∙ word_within c.args.input.now c.args.k c.in-Some.bytes.now (omega (arith, found.3.0, c.as_chunks.ensures.front_len)) (found.4 (omega arith) [] ∙ ap (λ (chunks : List (List ℕ)). get_or chunks c.args.k []) c.as_chunks.ensures.front)
 
-pub returns : goal.returns
-returns c =
-    word_within _ _ _ _ _ _ c.if-input-k.false c.digit-first.ensures.0 c.digit-second.ensures.0 c.digit-third.ensures.0 c.digit-fourth.ensures.0
+pub returns-in-None : goal.returns-in-None
+returns-in-None c = word_behind _ _ (omega (arith, c.in-None.ensures.lookup, c.as_chunks.ensures.front_len))

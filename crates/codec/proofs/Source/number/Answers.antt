@@ -10,7 +10,7 @@ use Rattle.codec.proofs.Source.number.Goals.{After-read_groups}
 
 -- the bytes from an offset on, none behind the last
 rest_is : (s : List ℕ) (at : ℕ) (r : Option (Bor (List ℕ))) (rest none : Bor (List ℕ)) → none.now ≡ [] → rest ≡ unwrap_or r none → IsGetRangeResult s at (length s) r → rest.now ≡ drop at s
-rest_is s at None rest none e q h = ap (λ (x : Bor (List ℕ)). x.now) q ∙ e ∙ sym (drop_of_length-le s (elim h.0 [ inl p ↦ omega arith | inr p ↦ absurd (let x : ⊥ = omega arith in x) ]))
+rest_is s at None rest none e q h = ap (λ (x : Bor (List ℕ)). x.now) q ∙ e ∙ sym (drop_of_length-le s (elim h.0 [ inl p ↦ omega arith | inr p ↦ absurd (omega arith) ]))
 rest_is s at (Some x) rest none e q h = ap (λ (x : Bor (List ℕ)). x.now) q ∙ h.0.2 ∙ between_to_end s at (length s) (omega arith)
 
 -- what is read there

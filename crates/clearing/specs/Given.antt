@@ -1,0 +1,7 @@
+-- What a refused book gives.
+use Rattle.std.specs.Prelude.{pos}
+use Rattle.clearing.specs.declared.Cleared.{Cleared}
+
+-- "counts, welfare and next position are then 0"
+abbrev pub nothing_cleared : Cleared
+nothing_cleared = record { orders = 0; welfare = pos 0 }

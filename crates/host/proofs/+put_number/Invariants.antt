@@ -1,5 +1,0 @@
--- each call has one byte less
-use Rattle.host.proofs.+put_number.Given as goal
-
-abbrev pub decreases-put_number : goal.decreases-put_number
-decreases-put_number l = l.k

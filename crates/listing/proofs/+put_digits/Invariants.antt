@@ -1,5 +1,0 @@
--- each call has one digit less
-use Rattle.listing.proofs.+put_digits.Given as goal
-
-abbrev pub decreases-put_digits : goal.decreases-put_digits
-decreases-put_digits l = l.k

@@ -1,2 +1,0 @@
--- Laws that the proofs of the words' functions cite.
-pub mod Negative
