@@ -21,13 +21,6 @@ pub const PHASES: usize = 26;
 // One beginning more than there are families: where the last ends.
 const STARTS: usize = Family::COUNT + 1;
 
-// Where each family begins, and how many columns it has.
-#[derive(Clone, Copy)]
-struct Layout {
-    starts: [usize; STARTS],
-    columns: [usize; Family::COUNT],
-}
-
 // The place of a family on the sheet.
 fn place_of(counts: Counts, family: Family) -> Place
     ensures { result ≡ family_place counts.n counts.m (counts.m * counts.m) (2 ^ counts.m) family }
@@ -35,7 +28,7 @@ fn place_of(counts: Counts, family: Family) -> Place
     let n = counts.n;
     let m = counts.m;
     let lines = counts.lines();
-    let sets = subset_count(m);
+    let sets = subset_count(counts);
     match family {
         Bids => Place(0, n, Limits::BID_NUMBERS),
         Capacities => Place(1, m, m),
@@ -77,33 +70,14 @@ fn number(family: Family) -> usize
     family as usize
 }
 
-// The families one behind the other.
-fn layout_of(counts: Counts) -> Layout
-    ensures { IsLayout counts.n counts.m result.starts result.columns }
-{
-    let mut layout = Layout {
-        starts: [0; STARTS],
-        columns: [0; Family::COUNT],
-    };
-    let mut end = 0;
-    for (f, family) in Family::ALL.iter().enumerate() {
-        let place = place_of(counts, *family);
-        layout.starts[f] = end;
-        layout.columns[f] = place.2;
-        end += place.1 * place.2;
-    }
-    layout.starts[Family::COUNT] = end;
-    layout
-}
-
 // How many orders each phase has, for so many scratch cells.
 fn sizes_of(counts: Counts, scratch: usize) -> [usize; PHASES]
     requires { scratch ≡ scratch_count counts.n counts.m }
     ensures { IsSizes counts.n counts.m result }
 {
     let mut sizes = [0; PHASES];
-    for k in 0..PHASES {
-        sizes[k] = shape_of(counts, scratch, k).size();
+    for (k, size) in sizes.iter_mut().enumerate() {
+        *size = shape_of(counts, scratch, k).size();
     }
     sizes
 }
@@ -131,11 +105,21 @@ impl Tables {
     ghost use Rattle.orders.specs.Shaped.{IsShape, InPhase};
     ghost use Rattle.orders.specs.Plans.{phase_of, order_at};
 
+    // The families one behind the other, then the phases by how many scratch cells there are.
     fn new(counts: Counts) -> Tables
         ensures { (result.counts.n ≡ counts.n) × (result.counts.m ≡ counts.m) }
     {
-        let Layout { starts, columns } = layout_of(counts);
-        let scratch = starts[Family::COUNT] - starts[Temporaries as usize];
+        let mut starts = [0; STARTS];
+        let mut columns = [0; Family::COUNT];
+        let mut end = 0;
+        for (f, family) in Family::ALL.iter().enumerate() {
+            let place = place_of(counts, *family);
+            starts[f] = end;
+            columns[f] = place.2;
+            end += place.1 * place.2;
+        }
+        starts[Family::COUNT] = end;
+        let scratch = end - starts[Temporaries as usize];
         let sizes = sizes_of(counts, scratch);
         Tables {
             counts,
@@ -155,7 +139,7 @@ impl Tables {
         Ok(Tables::new(counts))
     }
 
-    // The shape of phase k.
+    // The shape of phase k. Number and shape stay two values: a type for both would have to carry the counts too.
     pub fn shape(&self, k: usize) -> Shape
         requires { k < phase_count }
         ensures { IsShape (phase_of self.now k) result }

@@ -35,7 +35,7 @@ pub fn settled(sizes: &[usize], place: Within) -> Within
 }
 
 impl Tables {
-    // How many orders all phases have.
+    // How many orders all phases have. The library's `sum` asks for its bound over the runs of an iterator, which takes a longer proof than this loop.
     pub fn length(&self) -> usize
         ensures { result ≡ length (plan_of self.now) }
     {

@@ -31,6 +31,7 @@ pub fn judge_room(total: usize, at: usize, room: usize) -> Verdict
 
 impl Tables {
     // As many whole orders as fit, from a position on. The phase that the next order is in is kept from order to order.
+    // The slice stays whole beside the count of its bytes: what was written is stated of the whole.
     pub fn write(&self, total: usize, at: usize, out: &mut [u8]) -> Written
         requires total_value { total ≡ length (plan_of self.now) }
         requires at_le_total { at ≤ total }
