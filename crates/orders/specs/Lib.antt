@@ -10,4 +10,5 @@ pub mod Steps
 pub mod Cells
 pub mod Answer
 pub mod Runs
+pub mod Plans
 pub mod Calls

@@ -10,7 +10,7 @@ use Rattle.plan.specs.Loops.{loop}
 use Rattle.plan.specs.Running.{subset_block}
 use Rattle.plan.specs.Blocks.{cut_turn, test_order, gain_turn}
 use Rattle.plan.specs.Subsets.{lowest}
-use Rattle.orders.specs.Limits.{part_limit}
+use Rattle.orders.specs.Limits.{part_limit, stretch_limit}
 use Rattle.orders.specs.declared.shape.Columns.{Columns}
 use Rattle.orders.specs.declared.shape.Shape.{Shape}
 use Rattle.std.proofs.Math.Decide.{dec_lt}
@@ -67,6 +67,10 @@ part_in s q = get_or s.parts q no_columns
 -- how many orders part q has
 abbrev pub part_number : Shape → ℕ → ℕ
 part_number s q = (part_in s q).count * (part_in s q).turn
+
+-- each at most so many
+abbrev pub SmallSizes : Shape → Type 0
+SmallSizes s = (part_number s 0 ≤ stretch_limit) × (part_number s 1 ≤ stretch_limit) × (part_number s 2 ≤ stretch_limit) × (part_number s 3 ≤ stretch_limit)
 
 -- and a row, by the four parts
 abbrev pub row_number : Shape → ℕ

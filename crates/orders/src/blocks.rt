@@ -1,8 +1,8 @@
 // Blocks of orders over names: the order at a turn of its block.
+// A turn is a number, since a position is divided into places: a block as a list or a closure would be made anew for each of its orders.
 #![tactic(auto, using(crate::specs::Named::at_turn))]
 
-ghost use Rattle.std.specs.Prelude.{◌≡◌, ◌<◌, ◌≤◌, ◌^◌, [], ◌∷◌};
-ghost use Rattle.definitions.specs.Limits.{pool_limit};
+ghost use Rattle.std.specs.Prelude.{◌≡◌, ◌<◌, ◌^◌, [], ◌∷◌};
 ghost use Rattle.plan.specs.Orders.{sum, product};
 ghost use Rattle.plan.specs.Running.{subset_block};
 ghost use Rattle.plan.specs.Blocks.{size_block, cut_turn, test_order, cost_turn, amount_block, rest_turn, take_turn, offer_block, highest_offer_turn, price_block};
@@ -10,6 +10,7 @@ ghost use Rattle.orders.specs.Named.{name_of, named_of, made, moved};
 
 use crate::names::{Name, NamedOrder, QUANTITY, cell, difference, first, less, own, product, sum};
 use crate::sets::{is_leaving, other_pools, subset_count};
+use definitions::Counts;
 use plan::Family::*;
 
 // The product of cells a and b, in cell t, added to cell d.
@@ -158,14 +159,13 @@ pub fn take_turn(l: usize, a: usize, b: usize, s: usize) -> NamedOrder
 
 // One step of a least, in cell d: the cost of s is its cut and the sizes outside s.
 #[tactic(auto, using(crate::specs::Named::at_turn, crate::specs::Named::made_next))]
-pub fn cost_turn(m: usize, d: Name, s: usize, turn: usize) -> NamedOrder
-    requires m_le_pool_limit { m ≤ pool_limit }
-    requires s_bound { s < 2 ^ m }
+pub fn cost_turn(counts: Counts, d: Name, s: usize, turn: usize) -> NamedOrder
+    requires s_bound { s < 2 ^ counts.m }
     requires turn_bound { turn < 5 }
-    ensures { named_of result ≡ made (cost_turn m (name_of d) s) turn }
+    ensures { named_of result ≡ made (cost_turn counts.m (name_of d) s) turn }
 {
     if turn == 0 {
-        let last = subset_count(m) - 1;
+        let last = subset_count(counts) - 1;
         return sum(own(2), first(Cuts, s), first(Subsets, last - s));
     }
     moved(d, own(2), own(2), d, turn - 1)

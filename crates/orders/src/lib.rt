@@ -32,7 +32,7 @@ pub struct Position {
     pub at: usize,
 }
 
-// What the plan gives at a position: an order with the position after it, or that it has ended.
+// What the plan gives at a position: an order with the position after it, or that it has ended. Document 01 names this form.
 #[derive(Clone, Copy)]
 pub enum Asked {
     Order(Order, Position),
@@ -110,14 +110,14 @@ pub fn run_plan(n: usize, m: usize, sheet: &mut [u32]) -> Result<usize, Reason>
 }
 
 // What was written: bytes, orders, and the position after them.
-#[derive(Clone, Copy)]
+#[derive(Clone, Copy, Default)]
 pub struct Written {
     pub bytes: usize,
     pub orders: usize,
     pub next: usize,
 }
 
-// From a position, fills the slice with as many whole orders as fit and keeps the bytes after them.
+// From a position, fills the slice with as many whole orders as fit and keeps the bytes after them. n, m and at come as numbers, as the C host gives them.
 pub fn write_plan(n: usize, m: usize, at: usize, out: &mut [u8]) -> Result<Written, Reason>
     ensures refusal { refusal_of result ≡ write_refusal plan n m at (length out.old) }
     ensures counts { counts_of result ≡ write_counts plan n m at (length out.old) }

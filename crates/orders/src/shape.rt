@@ -45,7 +45,7 @@ pub struct Shape {
 
 impl Shape {
     ghost use Rattle.std.specs.Prelude.{[], ◌∷◌};
-    ghost use Rattle.orders.specs.Shaped.{part_number, row_number};
+    ghost use Rattle.orders.specs.Shaped.{part_number, row_number, SmallSizes};
 
     pub fn new(rows: usize, parts: [Columns; 4]) -> Shape
         requires { rows ≤ bid_limit }
@@ -56,7 +56,8 @@ impl Shape {
 
     // How many orders each part of a row has.
     pub fn sizes(&self) -> [usize; 4]
-        ensures { result ≡ part_number self.now 0 ∷ part_number self.now 1 ∷ part_number self.now 2 ∷ part_number self.now 3 ∷ [] }
+        ensures sizes { result ≡ part_number self.now 0 ∷ part_number self.now 1 ∷ part_number self.now 2 ∷ part_number self.now 3 ∷ [] }
+        ensures small { SmallSizes self.now }
     {
         let [a, b, c, d] = self.parts;
         [a.size(), b.size(), c.size(), d.size()]
@@ -66,8 +67,8 @@ impl Shape {
     pub fn row_size(&self) -> usize
         ensures { (result ≡ row_number self.now) × (result ≤ row_limit) }
     {
-        let [a, b, c, d] = self.parts;
-        a.size() + (b.size() + (c.size() + d.size()))
+        let [a, b, c, d] = self.sizes();
+        a + (b + (c + d))
     }
 
     // How many orders the phase has.

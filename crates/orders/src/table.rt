@@ -1,5 +1,5 @@
 // The table of the plan's phases: how often each loops, and the order at a place of it, over names.
-// A phase goes by its number: a position is found by counting phases off, and a name would be looked up in a list for each order.
+// A phase goes by its number, and so does a part of its rows: a position is found by counting them off, and a name would be looked up for each order.
 #![tactic(auto, using(crate::specs::Shaped::one_of, crate::specs::Shaped::of_part, crate::specs::Shaped::of_second, crate::specs::Shaped::one_of_second, crate::specs::Shaped::sum_at, crate::specs::Shaped::head_of, crate::specs::Shaped::cut_at, crate::specs::Shaped::gain_at))]
 
 ghost use Rattle.std.specs.Prelude.{◌≡◌, ◌<◌};
@@ -30,7 +30,7 @@ pub fn shape_of(counts: Counts, scratch: usize, k: usize) -> Shape
     let n = counts.n;
     let m = counts.m;
     let lines = counts.lines();
-    let sets = subset_count(m);
+    let sets = subset_count(counts);
     match k {
         0 => Shape::new(1, [ONE, NONE, NONE, NONE]), // units
         1 => Shape::new(1, [ONE, NONE, NONE, NONE]), // shifts
@@ -131,7 +131,7 @@ fn ranks(counts: Counts, sizes: Family, ranks: Family, s: Spot) -> NamedOrder
     match s.part {
         0 => subset_order(m, set, cell(sizes, s.row, lowest_pool(m, set))),
         1 => NamedOrder::Constant(first(ranks, s.row), Limits::POSITIVE as usize),
-        _ => cost_turn(m, first(ranks, s.row), set, s.turn),
+        _ => cost_turn(counts, first(ranks, s.row), set, s.turn),
     }
 }
 

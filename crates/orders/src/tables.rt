@@ -1,5 +1,5 @@
 // The tables that a plan is made by: where each family of cells stands on the sheet, and how many orders each phase has.
-ghost use Rattle.std.specs.Prelude.{◌≡◌, ◌<◌, IfOk};
+ghost use Rattle.std.specs.Prelude.{◌≡◌, ◌*◌, ◌^◌, ◌<◌, IfOk};
 ghost use Rattle.definitions.specs.Answers.{refusal_of};
 ghost use Rattle.definitions.specs.Calls.{counts_refusal};
 ghost use Rattle.plan.specs.Names.{number, family_place};
@@ -21,17 +21,14 @@ pub const PHASES: usize = 26;
 // One beginning more than there are families: where the last ends.
 const STARTS: usize = Family::COUNT + 1;
 
-// Where each family begins, and how many columns it has.
-#[derive(Clone, Copy)]
-struct Layout {
-    starts: [usize; STARTS],
-    columns: [usize; Family::COUNT],
-}
-
-// The place of a family on the sheet, for so many lines and sets of pools.
-fn place_of(n: usize, m: usize, lines: usize, sets: usize, family: Family) -> Place
-    ensures { result ≡ family_place n m lines sets family }
+// The place of a family on the sheet.
+fn place_of(counts: Counts, family: Family) -> Place
+    ensures { result ≡ family_place counts.n counts.m (counts.m * counts.m) (2 ^ counts.m) family }
 {
+    let n = counts.n;
+    let m = counts.m;
+    let lines = counts.lines();
+    let sets = subset_count(counts);
     match family {
         Bids => Place(0, n, Limits::BID_NUMBERS),
         Capacities => Place(1, m, m),
@@ -73,35 +70,14 @@ fn number(family: Family) -> usize
     family as usize
 }
 
-// The families one behind the other.
-fn layout_of(counts: Counts) -> Layout
-    ensures { IsLayout counts.n counts.m result.starts result.columns }
-{
-    let lines = counts.lines();
-    let sets = subset_count(counts.m);
-    let mut layout = Layout {
-        starts: [0; STARTS],
-        columns: [0; Family::COUNT],
-    };
-    let mut end = 0;
-    for (f, family) in Family::ALL.iter().enumerate() {
-        let place = place_of(counts.n, counts.m, lines, sets, *family);
-        layout.starts[f] = end;
-        layout.columns[f] = place.2;
-        end += place.1 * place.2;
-    }
-    layout.starts[Family::COUNT] = end;
-    layout
-}
-
 // How many orders each phase has, for so many scratch cells.
 fn sizes_of(counts: Counts, scratch: usize) -> [usize; PHASES]
     requires { scratch ≡ scratch_count counts.n counts.m }
     ensures { IsSizes counts.n counts.m result }
 {
     let mut sizes = [0; PHASES];
-    for k in 0..PHASES {
-        sizes[k] = shape_of(counts, scratch, k).size();
+    for (k, size) in sizes.iter_mut().enumerate() {
+        *size = shape_of(counts, scratch, k).size();
     }
     sizes
 }
@@ -124,15 +100,26 @@ pub struct Tables {
 
 impl Tables {
     ghost use Rattle.plan.specs.Plan.{cell_of, Placed, PlacedOrder};
-    ghost use Rattle.plan.specs.Table.{phase_at, phase_count};
+    ghost use Rattle.plan.specs.Table.{phase_count};
     ghost use Rattle.orders.specs.Named.{name_of, named_of, numbered_of};
-    ghost use Rattle.orders.specs.Shaped.{IsShape, InPhase, order_in};
+    ghost use Rattle.orders.specs.Shaped.{IsShape, InPhase};
+    ghost use Rattle.orders.specs.Plans.{phase_of, order_at};
 
+    // The families one behind the other, then the phases by how many scratch cells there are.
     fn new(counts: Counts) -> Tables
         ensures { (result.counts.n ≡ counts.n) × (result.counts.m ≡ counts.m) }
     {
-        let Layout { starts, columns } = layout_of(counts);
-        let scratch = starts[Family::COUNT] - starts[Temporaries as usize];
+        let mut starts = [0; STARTS];
+        let mut columns = [0; Family::COUNT];
+        let mut end = 0;
+        for (f, family) in Family::ALL.iter().enumerate() {
+            let place = place_of(counts, *family);
+            starts[f] = end;
+            columns[f] = place.2;
+            end += place.1 * place.2;
+        }
+        starts[Family::COUNT] = end;
+        let scratch = end - starts[Temporaries as usize];
         let sizes = sizes_of(counts, scratch);
         Tables {
             counts,
@@ -152,10 +139,10 @@ impl Tables {
         Ok(Tables::new(counts))
     }
 
-    // The shape of phase k.
+    // The shape of phase k. Number and shape stay two values: a type for both would have to carry the counts too.
     pub fn shape(&self, k: usize) -> Shape
         requires { k < phase_count }
-        ensures { IsShape (phase_at self.now.counts.n self.now.counts.m k) result }
+        ensures { IsShape (phase_of self.now k) result }
     {
         shape_of(self.counts, self.scratch, k)
     }
@@ -170,6 +157,7 @@ impl Tables {
     }
 
     // An order with each name replaced by its cell.
+    #[tactic(auto, unfolding(crate::specs::Named::numbered_of))]
     fn numbered(&self, order: NamedOrder) -> Order
         requires { PlacedOrder self.now.counts.n self.now.counts.m (named_of order) }
         ensures { result ≡ numbered_of self.now.counts.n self.now.counts.m (named_of order) }
@@ -197,8 +185,8 @@ impl Tables {
     // The order at a place of phase k.
     pub fn order(&self, k: usize, s: Spot) -> Order
         requires k_lt_phase_count { k < phase_count }
-        requires in_phase { InPhase (phase_at self.now.counts.n self.now.counts.m k) s }
-        ensures { result ≡ numbered_of self.now.counts.n self.now.counts.m (order_in (phase_at self.now.counts.n self.now.counts.m k) s) }
+        requires in_phase { InPhase (phase_of self.now k) s }
+        ensures { result ≡ order_at self.now k s }
     {
         self.numbered(order_of(self.counts, k, s))
     }

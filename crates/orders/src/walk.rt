@@ -2,11 +2,11 @@
 ghost use Rattle.std.specs.Prelude.{◌≡◌, ◌≤◌, ◌<◌, length, get_or};
 ghost use Rattle.definitions.specs.declared.Order.TheVariants.{Constant};
 ghost use Rattle.plan.specs.Phased.{row_of, row_size};
-ghost use Rattle.plan.specs.Table.{phase_at, phase_count};
-ghost use Rattle.plan.specs.Plan.{plan};
+ghost use Rattle.plan.specs.Table.{phase_count};
 ghost use Rattle.orders.specs.Shaped.{IsShape};
 ghost use Rattle.orders.specs.Stretches.{start, position};
 ghost use Rattle.orders.specs.Steps.{IsAt};
+ghost use Rattle.orders.specs.Plans.{plan_of, phase_of};
 
 use crate::shape::{Shape, Spot};
 use crate::tables::Tables;
@@ -35,9 +35,9 @@ pub fn settled(sizes: &[usize], place: Within) -> Within
 }
 
 impl Tables {
-    // How many orders all phases have.
+    // How many orders all phases have. The library's `sum` asks for its bound over the runs of an iterator, which takes a longer proof than this loop.
     pub fn length(&self) -> usize
-        ensures { result ≡ length (plan self.now.counts.n self.now.counts.m) }
+        ensures { result ≡ length (plan_of self.now) }
     {
         let mut length = 0;
         for size in &self.sizes {
@@ -49,10 +49,10 @@ impl Tables {
     // The order at place x of row i of phase k.
     fn order_in_row(&self, k: usize, shape: &Shape, i: usize, x: usize) -> Order
         requires k_lt_phase_count { k < phase_count }
-        requires shape { IsShape (phase_at self.now.counts.n self.now.counts.m k) shape.now }
-        requires i_bound { i < (phase_at self.now.counts.n self.now.counts.m k).rows }
-        requires x_bound { x < row_size (phase_at self.now.counts.n self.now.counts.m k) }
-        ensures { IsAt self.now.counts.n self.now.counts.m (row_of (phase_at self.now.counts.n self.now.counts.m k) i) x result }
+        requires shape { IsShape (phase_of self.now k) shape.now }
+        requires i_bound { i < (phase_of self.now k).rows }
+        requires x_bound { x < row_size (phase_of self.now k) }
+        ensures { IsAt self.now.counts.n self.now.counts.m (row_of (phase_of self.now k) i) x result }
     {
         let sizes = shape.sizes();
         let first = Within {
@@ -74,7 +74,7 @@ impl Tables {
     pub fn order_within(&self, place: Within) -> Order
         requires phase { place.stretch < phase_count }
         requires inside { place.before < get_or self.now.sizes place.stretch 0 }
-        ensures { result ≡ get_or (plan self.now.counts.n self.now.counts.m) (position self.now.sizes place) (Constant 0 0) }
+        ensures { result ≡ get_or (plan_of self.now) (position self.now.sizes place) (Constant 0 0) }
     {
         let k = place.stretch;
         let shape = self.shape(k);
@@ -84,8 +84,8 @@ impl Tables {
 
     // The plan's order at a position before its end.
     pub fn order_at(&self, at: usize) -> Order
-        requires { at < length (plan self.now.counts.n self.now.counts.m) }
-        ensures { result ≡ get_or (plan self.now.counts.n self.now.counts.m) at (Constant 0 0) }
+        requires { at < length (plan_of self.now) }
+        ensures { result ≡ get_or (plan_of self.now) at (Constant 0 0) }
     {
         let first = Within {
             stretch: 0,

@@ -5,6 +5,7 @@ ghost use Rattle.definitions.specs.Plan.{bytes_written, written_counts, room_ref
 ghost use Rattle.plan.specs.Plan.{plan};
 ghost use Rattle.orders.specs.Answer.{written_of};
 ghost use Rattle.orders.specs.Calls.{past_refusal};
+ghost use Rattle.orders.specs.Plans.{plan_of};
 
 use crate::Written;
 use crate::tables::Tables;
@@ -30,8 +31,9 @@ pub fn judge_room(total: usize, at: usize, room: usize) -> Verdict
 
 impl Tables {
     // As many whole orders as fit, from a position on. The phase that the next order is in is kept from order to order.
+    // The slice stays whole beside the count of its bytes: what was written is stated of the whole.
     pub fn write(&self, total: usize, at: usize, out: &mut [u8]) -> Written
-        requires total_value { total ≡ length (plan self.now.counts.n self.now.counts.m) }
+        requires total_value { total ≡ length (plan_of self.now) }
         requires at_le_total { at ≤ total }
         ensures counts { written_of result ≡ written_counts plan self.now.counts.n self.now.counts.m at (length out.old) }
         ensures slice { out.new ≡ over (bytes_written plan self.now.counts.n self.now.counts.m at (length out.old)) out.old }

@@ -8,7 +8,7 @@ pub loop-k-preserved : goal.loop-k-preserved
 loop-k-preserved c =
     let a = c.args.counts in
     let l = c.loop-k in (
-      length-set l.sizes l.k _ ∙ l.invariant.0,
-      more_sizes a.n a.m l.sizes l.k _ (omega (arith, l.invariant.0)) l.invariant.1
+      length-set l.size-items l.k _ ∙ l.invariant.0,
+      more_sizes a.n a.m l.size-items l.k _ (omega (arith, l.invariant.0)) l.invariant.1
           (record { is = c.size.ensures.0 ∙ size_is _ _ c.shape_of.ensures; small = c.size.ensures.1 }),
     )

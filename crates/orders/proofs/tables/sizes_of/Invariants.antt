@@ -5,4 +5,4 @@ use Rattle.orders.specs.Tables.{IsSize}
 use Rattle.orders.proofs.tables.sizes_of.Given as goal
 
 abbrev pub invariant-loop-k : goal.invariant-loop-k
-invariant-loop-k l = (length l.sizes ≡ phase_count) × ((f : ℕ) → f < l.k → IsSize l.counts.n l.counts.m f (get_or l.sizes f 0))
+invariant-loop-k l = (length l.size-items ≡ phase_count) × ((f : ℕ) → f < l.k → IsSize l.counts.n l.counts.m f (get_or l.size-items f 0))

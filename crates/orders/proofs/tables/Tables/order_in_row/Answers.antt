@@ -9,10 +9,10 @@ use Rattle.orders.proofs.tables.Tables.order_in_row.Goals.{After-settled-at, Aft
 
 pub settled-at-requires : goal.settled-at-requires
 settled-at-requires c =
-    omega (arith, row_end _ _ c.requires.shape _ c.sizes-sizes.ensures, from_start c.sizes-sizes.result c.args.x, c.requires.x_bound)
+    omega (arith, row_end _ _ c.requires.shape _ c.sizes-sizes.ensures.sizes, from_start c.sizes-sizes.result c.args.x, c.requires.x_bound)
 
 there : (c : After-settled-at) → let t = c.args.self.now.counts in Lies (phase_at t.n t.m c.args.k) c.args.x c.settled-at.result.stretch c.settled-at.result.before
-there c = lies _ _ c.requires.shape _ c.sizes-sizes.ensures c.args.x _ _ c.settled-at.ensures.same c.settled-at.ensures.inside
+there c = lies _ _ c.requires.shape _ c.sizes-sizes.ensures.sizes c.args.x _ _ c.settled-at.ensures.same c.settled-at.ensures.inside
 
 turn : (c : After-index-shape-at) → let t = c.args.self.now.counts in
     (get_or c.args.shape.now.parts c.settled-at.result.stretch c.index-shape-at.result).turn ≡ (part_at (phase_at t.n t.m c.args.k) c.settled-at.result.stretch).turn

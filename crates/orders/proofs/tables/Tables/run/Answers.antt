@@ -1,31 +1,12 @@
--- `run` meets its contract: each turn of a loop runs one row or phase more.
+-- After the last phase the whole plan is run.
 use Rattle.std.proofs.Common.{ℕ, ◌≡◌, sym, ap, ◌∙◌, arith, List, length}
 use Rattle.plan.specs.Orders.{OrderOn}
 use Rattle.plan.specs.Names.{Name}
 use Rattle.plan.specs.Loops.{loop}
-use Rattle.plan.specs.Phased.{row_of, all_rows, flat_loop, phase_in}
+use Rattle.plan.specs.Phased.{all_rows, flat_loop, phase_in}
 use Rattle.plan.specs.Table.{phase_at, table, table_length}
-use Rattle.orders.specs.Runs.{ran_of, ran_none, ran_one, ran_plan}
+use Rattle.orders.specs.Runs.{ran_of, ran_plan}
 use Rattle.orders.proofs.tables.Tables.run.Goals as goal
-
-pub loop-k-init : goal.loop-k-init
-loop-k-init c = ran_none _ _ _
-
-pub loop-row-init : goal.loop-row-init
-loop-row-init c = ran_none _ _ _
-
-pub loop-row-preserved : goal.loop-row-preserved
-loop-row-preserved c =
-    let t = c.args.self.now.counts in
-    ran_one t.n t.m (row_of (phase_at t.n t.m c.loop-k.k)) _ _ _ c.loop-row.row c.loop-row.invariant c.run_row.ensures
-
-pub loop-k-preserved : goal.loop-k-preserved
-loop-k-preserved c =
-    let t = c.args.self.now.counts in
-    let p = phase_at t.n t.m c.loop-k.k in
-    let f : ℕ → List (OrderOn Name) = λ u. all_rows (phase_at t.n t.m u) in
-    let last : c.loop-row.row ≡ p.rows = omega (arith, c.loop-row-test.false, c.loop-row.auto.row-end, c.shape-shape.ensures.rows) in
-    ran_one t.n t.m f _ _ _ c.loop-k.k c.loop-k.invariant (c.loop-row.invariant ∙ ap (λ (k : ℕ). ran_of t.n t.m (loop k (row_of p)) c.loop-k.sheet) last)
 
 pub returns : goal.returns
 unfolding phase_at

@@ -8,18 +8,9 @@ use Rattle.plan.specs.Phased.{part_at, stretch}
 use Rattle.plan.specs.Table.{phase_at}
 use Rattle.orders.specs.Limits.{part_limit}
 use Rattle.orders.specs.Shaped.{IsPart, order_in}
-use Rattle.orders.specs.Runs.{ran_of, ran_none, ran_one, step_one, block_ran, row_of_four}
+use Rattle.orders.specs.Runs.{ran_of, ran_one, step_one, block_ran, row_of_four}
 use Rattle.orders.proofs.tables.Tables.run_row.Goals as goal
 use Rattle.orders.proofs.tables.Tables.run_row.Goals.{After-columns-item}
-
-pub loop-part-init : goal.loop-part-init
-loop-part-init c = ran_none _ _ _
-
-pub loop-column-init : goal.loop-column-init
-loop-column-init c = ran_none _ _ _
-
-pub loop-turn-init : goal.loop-turn-init
-loop-turn-init c = ran_none _ _ _
 
 -- the part that is run has the numbers of part q
 known : (c : After-columns-item) → IsPart (phase_at c.args.self.now.counts.n c.args.self.now.counts.m c.args.k) c.loop-part.part (get_or c.args.shape.now.parts c.loop-part.part c.columns-item.result)
@@ -45,18 +36,6 @@ loop-column-preserved c =
     let is = known (goal.at.loop-column-preserved c).After-columns-item in
     ran_one n m (part.block a.row) _ _ _ c.loop-column.column c.loop-column.invariant
     (block_ran n m (part.block a.row c.loop-column.column) _ _ c.loop-turn.turn c.loop-turn.invariant (omega (arith, c.loop-turn-test.false, c.loop-turn.auto.turn-end, is.1, part.fair a.row c.loop-column.column)))
-
-pub loop-part-preserved : goal.loop-part-preserved
-loop-part-preserved c =
-    let a = c.args in
-    let n = a.self.now.counts.n in
-    let m = a.self.now.counts.m in
-    let p = phase_at n m a.k in
-    let f : ℕ → List (OrderOn Name) = λ u. stretch a.row (part_at p u) in
-    let is = known (goal.at.loop-part-preserved c).After-columns-item in
-    let last : c.loop-column.column ≡ (part_at p c.loop-part.part).columns = omega (arith, c.loop-column-test.false, c.loop-column.auto.column-end, is.0) in
-    ran_one n m f _ _ _ c.loop-part.part c.loop-part.invariant
-    (c.loop-column.invariant ∙ ap (λ (k : ℕ). ran_of n m (loop k ((part_at p c.loop-part.part).block a.row)) c.loop-part.sheet) last)
 
 pub returns : goal.returns
 returns c =
