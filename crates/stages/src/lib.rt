@@ -4,10 +4,10 @@
 ghost use Rattle.std.specs.Prelude.{◌≡◌, cond, pos, nat_abs, Ok, Err};
 ghost use Rattle.std.specs.Int.Signed.{lt_z};
 ghost use Rattle.stages.specs.declared.Unsettled.TheVariants.{Unreadable, Refused};
-ghost use Rattle.stages.specs.Counting.{taken_by, counted_by, place_for, place_within, stored_at, stage_input};
+ghost use Rattle.stages.specs.Counting.{taken_by, counted_by, called_for, place_for, place_within, stored_at, stage_input};
 
 use crate::words::{Ended, NoNumber};
-use definitions::{Counts, Limits, Reason};
+use definitions::{Limits, Reason};
 use judging::judge_counts;
 
 pub mod words;
@@ -26,7 +26,7 @@ impl From<Reason> for Unsettled {
     ghost from_gives = { λ reason why. why ≡ Refused reason };
 
     fn from(reason: Reason) -> Unsettled {
-        Self::Refused(reason)
+        Unsettled::Refused(reason)
     }
 }
 
@@ -48,22 +48,34 @@ pub struct Tables {
 // What a whole text is.
 pub type Input = Result<Tables, Unsettled>;
 
-// How far the text has come: n is next, m is next, or numbers of the tables are next.
+// How far the text has come: n is next, m is next, or numbers of the tables are next. A stage may be given with any counts, so it holds plain numbers,
+// and what two counts call for is asked where it is used.
 #[derive(Clone, Copy)]
 pub enum Stage {
     First,
     Second { n: usize },
-    Tables { counts: Counts, read: usize },
+    Tables { n: usize, m: usize, read: usize },
 }
 
 // The stage, or the answer where it is known, whatever follows.
 pub type Progress = Result<Stage, Unsettled>;
 
-// Where the next number of the tables is stored: nowhere if they have no more.
-fn place_within(counts: Counts, read: usize) -> Option<usize>
-    ensures { result ≡ place_within counts read }
+// 1 and 2, or how many numbers n bids and m rows of m capacities have.
+fn call_for(n: usize, m: usize) -> Result<usize, Reason>
+    ensures { result ≡ called_for n m }
 {
-    (read < counts.inputs()).then_some(read)
+    let counts = judge_counts(n, m)?;
+    Ok(counts.inputs())
+}
+
+// Where the next number of the tables is stored: nowhere if they have no more.
+fn place_within(n: usize, m: usize, read: usize) -> Option<usize>
+    ensures { result ≡ place_within read (called_for n m) }
+{
+    match call_for(n, m) {
+        Ok(called) if read < called => Some(read),
+        _ => None,
+    }
 }
 
 // A count is not below 0.
@@ -82,15 +94,12 @@ fn count(stage: Stage, z: i32) -> Progress
         // 1 and 2 are answered before the rest is looked at.
         Stage::Second { n } => {
             let m = count_of(z)?;
-            let counts = judge_counts(n, m)?;
-            Ok(Stage::Tables { counts, read: 0 })
+            judge_counts(n, m)?;
+            Ok(Stage::Tables { n, m, read: 0 })
         }
-        Stage::Tables { counts, read } => {
-            let at = place_within(counts, read).ok_or(Unsettled::Unreadable)?;
-            Ok(Stage::Tables {
-                counts,
-                read: at + 1,
-            })
+        Stage::Tables { n, m, read } => {
+            let at = place_within(n, m, read).ok_or(Unsettled::Unreadable)?;
+            Ok(Stage::Tables { n, m, read: at + 1 })
         }
     }
 }
@@ -111,7 +120,7 @@ pub fn place(stage: Progress) -> Option<usize>
     ensures { result ≡ place_for stage }
 {
     match stage {
-        Ok(Stage::Tables { counts, read }) => place_within(counts, read),
+        Ok(Stage::Tables { n, m, read }) => place_within(n, m, read),
         _ => None,
     }
 }
@@ -133,10 +142,7 @@ pub fn answer(stage: Progress) -> Input
     ensures { result ≡ stage_input stage }
 {
     match stage? {
-        Stage::Tables { counts, read } if read == counts.inputs() => Ok(Tables {
-            n: counts.n,
-            m: counts.m,
-        }),
+        Stage::Tables { n, m, read } if call_for(n, m) == Ok(read) => Ok(Tables { n, m }),
         _ => Err(Unsettled::Unreadable),
     }
 }

@@ -45,7 +45,7 @@ impl Word {
     }
 }
 
-// Digits by their sign and their value, which is within 32 bits: beyond them a word is no number, whatever digits follow.
+// Digits by their sign and their value.
 #[derive(Clone, Copy)]
 pub struct Digits {
     negative: bool,
@@ -53,6 +53,9 @@ pub struct Digits {
 }
 
 impl Digits {
+    // Stands for every value beyond signed 32 bits: a word stays digits however many follow, as its definition says, and only its end judges them.
+    const BEYOND: u64 = 2_147_483_649;
+
     // No digit yet.
     fn none(negative: bool) -> Digits
         ensures { result ≡ no_digits negative }
@@ -68,10 +71,10 @@ impl Digits {
             return Word::NoNumber;
         }
         let value = 10 * u64::from(self.value) + u64::from(byte - b'0');
-        match u32::try_from(value) {
-            Ok(value) => Word::Digits(Digits { value, ..self }),
-            Err(_) => Word::NoNumber,
-        }
+        Word::Digits(Digits {
+            value: value.min(Digits::BEYOND) as u32,
+            ..self
+        })
     }
 
     // The number of that sign and size, if it is within signed 32 bits.
