@@ -128,26 +128,33 @@ fn call_bid(rt: &impl Print, input: &[u8]) -> Result<(), Failure> {
 
 // ---- Calls on a book: n and m; bids, capacities, sheet
 
-fn call_seal(rt: &impl Print, input: &[u8]) -> Result<(), Failure> {
+// Makes a call on the book and the sheet lent, which prints what it gives, and prints the sheet that it leaves.
+fn call_on_book<F>(rt: &impl Print, input: &[u8], call: F) -> Result<(), Failure>
+where
+    F: FnOnce(&LentBook, &mut [u32]) -> io::Result<()>,
+    requires { F.IsAlwaysCallable call }
+{
     let [bids, capacities, sheet] = slices::<3>(input, 3).ok_or(Failure::Unreadable)?;
     let mut tables = Tables::new();
     let book = tables.lend(input, bids, capacities);
     let mut cells = room();
     let sheet = lend(input, sheet, &mut cells);
-    print_verdict(rt, seal(&book, sheet).map(|_| ()))?;
+    call(&book, sheet)?;
     Ok(print_numbers(rt, b"sheet", sheet)?)
 }
 
+fn call_seal(rt: &impl Print, input: &[u8]) -> Result<(), Failure> {
+    call_on_book(rt, input, |book, sheet| {
+        print_verdict(rt, seal(book, sheet).map(|_| ()))
+    })
+}
+
 fn call_clear(rt: &impl Print, input: &[u8]) -> Result<(), Failure> {
-    let [bids, capacities, sheet] = slices::<3>(input, 3).ok_or(Failure::Unreadable)?;
-    let mut tables = Tables::new();
-    let book = tables.lend(input, bids, capacities);
-    let mut cells = room();
-    let sheet = lend(input, sheet, &mut cells);
-    let cleared = clear(&book, sheet);
-    print_counted(rt, cleared.map(|cleared| cleared.orders))?;
-    print_number(rt, b"welfare", cleared.map_or(0, |cleared| cleared.welfare))?;
-    Ok(print_numbers(rt, b"sheet", sheet)?)
+    call_on_book(rt, input, |book, sheet| {
+        let cleared = clear(book, sheet);
+        print_counted(rt, cleared.map(|cleared| cleared.orders))?;
+        print_number(rt, b"welfare", cleared.map_or(0, |cleared| cleared.welfare))
+    })
 }
 
 // The verdict and the count of orders, 0 on a refusal.

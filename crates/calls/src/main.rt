@@ -23,6 +23,7 @@ fn read_and_call(rt: &HostRuntime, bytes: &mut [u8; Words::BYTES + 1]) -> Result
 }
 
 fn main(rt: HostRuntime) -> io::Result<()> {
+    // There is no heap: room for the longest input, and for one byte more.
     let mut bytes = [0u8; Words::BYTES + 1];
     match read_and_call(&rt, &mut bytes) {
         Ok(()) => Ok(()),

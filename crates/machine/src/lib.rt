@@ -17,7 +17,7 @@ fn modulo_p(v: u64) -> u32
 }
 
 // What an order of a kind makes of its constant or of two residues; no order has an unknown kind.
-// The kind is a number, as in an order's bytes, and the range stands for the unknown ones: document 01 names this form.
+// Document 01 has the machine decide by the kind's number, with a range for the unknown ones.
 fn result(kind: u32, k: u32, x: u32, y: u32) -> u32
     requires { 0 < kind → (x < modulus) × (y < modulus) }
     ensures { result ≡ kind_result kind k x y }

@@ -4,7 +4,7 @@
 
 use definitions::Limits;
 use gathering::gather;
-use printing::{print_cells, print_number, print_verdict};
+use printing::{print_cells, print_number};
 use runner::run;
 use std::io;
 
@@ -24,7 +24,7 @@ fn run_and_print(rt: &impl Print, bytes: &[u8]) -> io::Result<()> {
             print_number(rt, b"orders", orders)?;
             print_cells(rt, &sheet)
         }
-        Err(reason) => print_verdict(rt, Err(reason)),
+        Err(reason) => rt.println(reason),
     }
 }
 
@@ -37,6 +37,7 @@ fn read_and_run(rt: &HostRuntime, bytes: &mut [u8; Replay::ROOM]) -> io::Result<
 }
 
 fn main(rt: HostRuntime) -> io::Result<()> {
+    // There is no heap: room for the longest plan.
     let mut bytes = [0u8; Replay::ROOM];
     read_and_run(&rt, &mut bytes)
 }

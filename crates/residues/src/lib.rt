@@ -22,6 +22,7 @@ pub fn residue(v: i32) -> u32
 }
 
 // A cell read with sign; a number that is no residue, which no sheet holds, as 0.
+// Two functions and no conversions of a type of residues: document 01 has cells of u32 and readings of i32.
 pub fn reading(x: u32) -> i32
     ensures { result ≡ read x }
 {

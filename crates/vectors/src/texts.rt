@@ -8,6 +8,7 @@ use std::io;
 fn show(rt: &impl Print, texts: &[(&str, &str)]) -> io::Result<()> {
     for (name, text) in texts {
         let mut sheet = [0u32; Limits::CELLS];
+        // There is no heap: room for the longest listing.
         let mut out = [0u8; Listing::ROOM];
         let size = settle_text(text.as_bytes(), &mut sheet, &mut out);
         rt.println(*name)?;
