@@ -12,10 +12,10 @@ use Rattle.definitions.specs.Answers.{Refusal, none, refuse, stated}
 use Rattle.definitions.specs.Calls.{counts_refusal}
 use Rattle.definitions.specs.Settle.{Whole, no_number, whole, Numbers, no_numbers, numbers, prepend, whole_of, word_numbers, tables, after_counts, with_counts, input_of, unreadable, refused}
 use Rattle.definitions.specs.Settle as settle
+use Rattle.laws.specs.Tests.{Lt?, less, more, lt?}
 use Rattle.stages.specs.declared.Stage.TheVariants as stage
 use Rattle.stages.specs.declared.Unsettled.TheVariants.{Unreadable, Refused}
 use Rattle.stages.specs.Counting.{table_numbers, Progress, judged_by, judged, called, begun, taken_by, place_for, stored_at, stage_input, input_for}
-use Rattle.laws.specs.Tests.{Lt?, less, more, lt?}
 use Rattle.stages.specs.Values.{ended_for}
 
 -- the counts pass

@@ -1,12 +1,20 @@
 -- Last theorem: a word read byte by byte ends as the number that document 01 reads it as, however many digits it has.
-use Rattle.std.specs.Prelude.{ℕ, zero, suc, ◌+◌, ◌-◌, ◌*◌, ◌≤◌, ◌≡◌, refl, Bool, true, false, cond, ◌&&◌, List, [], ◌∷◌, ◌++◌, leb, eqb, ℤ, pos, negsuc, neg_ℤ}
-use Rattle.std.proofs.Common.{sym, arith, le-leb}
+use Rattle.std.specs.Prelude.{ℕ, zero, suc, ◌+◌, ◌-◌, ◌*◌, ◌≤◌, ◌<◌, ◌≡◌, refl, Bool, true, false, cond, ◌&&◌, List, [], ◌∷◌, ◌++◌, leb, eqb, ℤ, pos, negsuc, neg_ℤ}
+use Rattle.std.proofs.Common.{sym, arith, lt-ltb, le-ltb, le-leb}
 use Rattle.std.proofs.lemmas.Bool.{lt-leb}
 use Rattle.definitions.specs.Settle.{Whole, no_number, whole, digits_from, digits, signed, fitting32, whole_of}
+use Rattle.laws.specs.Tests.{Lt?, less, more, lt?}
 use Rattle.stages.specs.declared.words.Word.{Word}
 use Rattle.stages.specs.declared.words.Word.TheVariants.{Empty, Minus, Digits, NoNumber}
-use Rattle.laws.specs.Tests.{Lt?, less, more, lt?}
 use Rattle.stages.specs.Words.{greatest_size, least_size, beyond, kept, digits_of, grown_by, Ended, number, fault, signed_of, ended_of}
+
+-- ---- A value within 32 bits is exact, and beyond them the word is no number
+
+pub kept_exact : (negative : Bool) (v : ℕ) → v < beyond → kept negative v ≡ Digits (digits_of negative v)
+kept_exact negative v h = rw (lt-ltb v beyond h) refl
+
+pub kept_beyond : (negative : Bool) (v : ℕ) → beyond ≤ v → kept negative v ≡ NoNumber
+kept_beyond negative v h = rw (le-ltb v beyond h) refl
 
 -- ---- The number at the word's end
 
@@ -49,7 +57,7 @@ no_number_stays [] = refl
 no_number_stays (byte ∷ bytes) = no_number_stays bytes
 
 -- of a value beyond 32 bits no digits make a number
-too_great : (negative : Bool) (bytes : List ℕ) (v : ℕ) → beyond ≤ v → ended_for (fitting32 (digits_from negative v bytes)) ≡ fault
+pub too_great : (negative : Bool) (bytes : List ℕ) (v : ℕ) → beyond ≤ v → ended_for (fitting32 (digits_from negative v bytes)) ≡ fault
 unfolding digits_from
 too_great true [] zero h = absurd (omega arith)
 too_great true [] (suc u) h = rw (lt-leb u (least_size - 1) (omega arith)) refl
@@ -68,9 +76,9 @@ Ends negative bytes v word = ended_of (word_from word bytes) ≡ ended_for (fitt
 kept_ended : (negative : Bool) (bytes : List ℕ) (v : ℕ) → Ends negative bytes v (Digits (digits_of negative v)) → Ends negative bytes v (kept negative v)
 kept_ended negative bytes v within = go (lt? v beyond)
   where
-    go : {t : Bool} → Lt? v beyond t → Ends negative bytes v (cond t (Digits (digits_of negative v)) NoNumber)
-    go (less h) = within
-    go (more h) = rw (no_number_stays bytes) (sym (too_great negative bytes v h))
+    go : {t : Bool} → Lt? v beyond t → Ends negative bytes v (kept negative v)
+    go (less h) = rw (kept_exact negative v h) within
+    go (more h) = rw (kept_beyond negative v h, no_number_stays bytes) (sym (too_great negative bytes v h))
 
 digits_ended : (negative : Bool) (bytes : List ℕ) (v : ℕ) → Ends negative bytes v (Digits (digits_of negative v))
 unfolding word_from digits_from
