@@ -1,6 +1,7 @@
 // From a text to the text that settle prints: clears the book, opens its results and lists them, or names the refusal.
 // specs/ say what is printed and left for every input, and that this is what document 01 says. Where out has less room than a listing may
-// need, every call here gives 0, the size of nothing, and leaves sheet and out as they are.
+// need, every call here gives 0 and leaves sheet and out as they are. `settled_size`, `settled_sheet` and `settled_slice` are three clauses and
+// not one: a caller cites each alone, and `write_why` has no sheet.
 #![tactic(auto)]
 
 ghost use Rattle.std.specs.Prelude.{◌≤◌, ◌≡◌, ℕ, List, length, take, leb, ℤ, IfOk, Err};
@@ -22,10 +23,7 @@ use opening::open;
 use stages::{Input, Tables, Unsettled};
 use text::{Reader, read};
 
-// The bytes that are asked for before a sheet is touched.
-const ROOM: usize = Listing::ROOM;
-
-// How many results a book has at most: with no heap there is a place for each of them.
+// How many results a book has at most.
 const RESULTS: usize = Limits::BIDS
     + Limits::POOLS * Limits::POOLS
     + Limits::POOL_RESULTS * Limits::POOLS;
@@ -47,13 +45,15 @@ fn list_sheet(counts: Counts, welfare: i64, sheet: &[u32], out: &mut [u8]) -> us
     ensures size { result ≡ text_size (leb text_room (length out.old)) (listing counts.n counts.m (opened_results counts.n counts.m sheet.now) welfare) }
     ensures bytes { out.new ≡ text_slice (leb text_room (length out.old)) (listing counts.n counts.m (opened_results counts.n counts.m sheet.now) welfare) out.old }
 {
+    // With no heap the results of this book are the first numbers of an array for the longest.
     let mut numbers = [0; RESULTS];
     let results = &mut numbers[..counts.results()];
     open(counts.n, counts.m, sheet, results).unwrap();
     write_listing(counts.n, counts.m, results, welfare, out)
 }
 
-// Clears the book of the tables that a text gave, first the numbers of the bids, then those of the capacities.
+// Clears the book of the tables that a text gave. The numbers are cut in two, as they are stored one behind the other: first those of the bids,
+// then those of the capacities. The counts are judged here, though no text that is read has others: a caller of `settle` may give any.
 fn clear_tables(
     tables: Tables,
     numbers: &[i32; Reader::NUMBERS],
@@ -66,7 +66,7 @@ fn clear_tables(
 {
     let counts = judge_counts(tables.n, tables.m)?;
     let bids = counts.bid_numbers();
-    let all = bids + counts.lines();
+    let all = counts.inputs();
     let book = LentBook {
         n: counts.n,
         m: counts.m,
@@ -89,7 +89,8 @@ fn settle_tables(
     ensures cells { sheet.new ≡ settled_sheet plan (tables_of tables.n tables.m numbers.now) (length out.old) sheet.old }
     ensures bytes { out.new ≡ settled_slice plan (tables_of tables.n tables.m numbers.now) (length sheet.old) out.old }
 {
-    if out.len() < ROOM {
+    // Asked for before the sheet is touched.
+    if out.len() < Listing::ROOM {
         return 0;
     }
     match clear_tables(tables, numbers, sheet) {
@@ -99,6 +100,8 @@ fn settle_tables(
 }
 
 // Writes, at the start of out, what settle prints for the text that was read, and gives its size. The sheet may hold anything.
+// 0 is the size of nothing: no text is empty. The text is not given as a part of out, of which no clause could then say what stands behind the
+// text. Sheet and out are two values: settle keeps its sheet to itself and hands out on.
 pub fn settle(
     input: Input,
     numbers: &[i32; Reader::NUMBERS],
