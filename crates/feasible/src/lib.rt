@@ -9,7 +9,7 @@ ghost use Rattle.definitions.specs.Checks.{sent_refusal, sent_feasible};
 ghost use Rattle.feasible.specs.Tests.{within_sizes, pool_balanced, tested, SentSizes};
 
 use definitions::{Counts, LentBook, Limits, Reason};
-use judging::judge_counts;
+use judging::judge_tables;
 use sums::pool_sums;
 
 // What is sent for a book: an amount for each bid, and the flows by rows.
@@ -25,12 +25,8 @@ pub fn judge_sent(book: &LentBook, amounts: usize, flows: usize) -> Result<Count
     ensures refusal { refusal_of result ≡ sent_refusal (book_of book.now) amounts flows }
     ensures counts { IfOk result (λ counts. (counts.n ≡ book.now.n) × (counts.m ≡ book.now.m)) }
 {
-    let counts = judge_counts(book.n, book.m)?;
-    if book.bids.len() != counts.bid_numbers()
-        || book.capacities.len() != counts.lines()
-        || amounts != counts.n
-        || flows != counts.lines()
-    {
+    let counts = judge_tables(book)?;
+    if amounts != counts.n || flows != counts.lines() {
         return Err(Reason::Length);
     }
     Ok(counts)
@@ -43,7 +39,8 @@ fn is_within_size(number: i32, limit: i32) -> bool
     0 <= number && number.unsigned_abs() <= limit.unsigned_abs()
 }
 
-// Each number lies between 0 and the size of its limit, which for number k stands at step × k + first: a bid's quantity is one of three numbers.
+// Each number lies between 0 and the size of its limit. One test of amounts and flows: the limit of number k stands at step × k + first, since an
+// amount's is one of three numbers of its bid; with the bids cut in chunks, the two would be tested by loops that differ in this alone.
 fn are_within(numbers: &[i32], limits: &[i32], step: usize, first: usize) -> bool
     requires { (k : ℕ) → k < length numbers.now → step * k + first < length limits.now }
     ensures { result ≡ within_sizes numbers.now limits.now step first }

@@ -16,7 +16,7 @@ number bids i j = get_or (get_or bids i []) j (pos 0)
 -- what `as_chunks` promises of them, and one of them
 module _ (table : List ℤ) {bids : List (List ℤ)} (front : bids ≡ first_chunks bid_numbers (length table / bid_numbers) table)
     (front_len : length bids ≡ length table / bid_numbers) (i : ℕ) (h : i < length bids) where
-  number_at : (j : ℕ) → j < bid_numbers → number bids i j ≡ get_or table (bid_numbers * i + j) (pos 0)
+  pub number_at : (j : ℕ) → j < bid_numbers → number bids i j ≡ get_or table (bid_numbers * i + j) (pos 0)
   number_at j q = ap (λ (b : List (List ℤ)). number b i j) front ∙ chunk_entry bid_numbers table (length table / bid_numbers) i j (pos 0) (omega arith) q
 
   pub pool_read : mag (number bids i 0) < 2 ^ hbits w32 → to_z w32 (of_z w32 (number bids i 0)) ≡ get_or table (bid_numbers * i) (pos 0)

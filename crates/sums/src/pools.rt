@@ -1,10 +1,10 @@
-// Sums over the bids of a pool, and over the lines that enter or leave it.
+// Sums over the bids of a pool, and over the lines that enter or leave it. Each adds turn by turn, under an invariant that bounds it: the library's
+// `sum` asks for that bound of one list, and these lists are made of two slices, or of every m-th number.
 ghost use Rattle.std.specs.Prelude.{◌≡◌, ℕ, ◌+◌, ◌*◌, ◌<◌, ◌≤◌, length, get_or, pos, nat_abs};
 ghost use Rattle.definitions.specs.Limits.{bid_limit, pool_limit, bid_numbers};
 ghost use Rattle.definitions.specs.Arithmetic.{on, sum_to};
 ghost use Rattle.sums.specs.Pools.{summable, on_side, stands, side_in, sum_limit};
 
-use crate::size;
 use definitions::Limits;
 
 // A side of the exchange.
@@ -43,33 +43,32 @@ fn amount_in(side: Side, number: i32, pool: i32, quantity: i32, amount: i32) -> 
     ensures { result ≡ on (stands side number pool quantity) (nat_abs amount) }
 {
     if side.has(quantity) && pool == number {
-        size(amount as i64)
+        amount.unsigned_abs() as usize
     } else {
         0
     }
 }
 
 // The accepted purchases of pool p, from 0, or its accepted sales.
-// The bid table is one slice, three numbers a bid, as document 01 lends it.
-pub fn side_in(side: Side, p: usize, bids: &[i32], amounts: &[i32]) -> usize
+pub fn side_in(side: Side, p: usize, table: &[i32], amounts: &[i32]) -> usize
     requires p_lt_pool_limit { p < pool_limit }
-    requires bids_len { length bids.now ≡ bid_numbers * length amounts.now }
+    requires table_len { length table.now ≡ bid_numbers * length amounts.now }
     requires amounts_len_bound { length amounts.now ≤ bid_limit }
-    ensures { (result ≡ side_in side bids.now amounts.now p) × (result ≤ sum_limit) }
+    ensures { (result ≡ side_in side table.now amounts.now p) × (result ≤ sum_limit) }
 {
     let number = p as i32 + 1;
+    let (bids, _) = table.as_chunks::<{ Limits::BID_NUMBERS }>();
     let mut total = 0;
-    for (i, &amount) in amounts.iter().enumerate() {
-        let at = Limits::BID_NUMBERS * i;
-        let pool = bids[at];
-        let quantity = bids[at + Limits::QUANTITY_PLACE];
+    for (i, &[pool, _, quantity]) in bids.iter().enumerate() {
+        let amount = amounts[i];
         let part = amount_in(side, number, pool, quantity, amount);
         total += part;
     }
     total
 }
 
-// What some lines carry together: the flow of line k stands at k × step + first.
+// What some lines carry together, a row or a column of their table: the flow of line k stands at k × step + first. `skip`, `step_by` and `take` would
+// promise which runs they make, and not at which index each flow stands.
 pub fn carried(first: usize, step: usize, count: usize, flows: &[i32]) -> usize
     requires count_le_pool_limit { count ≤ pool_limit }
     requires by_index { (k : ℕ) → k < count → k * step + first < length flows.now }
@@ -78,7 +77,7 @@ pub fn carried(first: usize, step: usize, count: usize, flows: &[i32]) -> usize
     let mut total = 0;
     for k in 0..count {
         let flow = flows[k * step + first];
-        total += size(flow as i64);
+        total += flow.unsigned_abs() as usize;
     }
     total
 }

@@ -32,23 +32,21 @@ pub fn do_amounts_fit(bids: &[i32], accepted: &[u32]) -> bool
         && are_small(accepted)
 }
 
-// The sum, bid by bid. The bid table is one slice, three numbers a bid, as document 01 lends it.
-pub fn sum_values(bids: &[i32], accepted: &[u32]) -> i64
-    requires { AmountsFit bids.now accepted.now }
-    ensures { result ≡ summed_welfare bids.now accepted.now }
+// The sum, bid by bid, in a `for`: a sum of signed numbers may leave its limits on the way, and the invariant says that this one does not.
+pub fn sum_values(table: &[i32], accepted: &[u32]) -> i64
+    requires { AmountsFit table.now accepted.now }
+    ensures { result ≡ summed_welfare table.now accepted.now }
 {
+    let (bids, _) = table.as_chunks::<{ Limits::BID_NUMBERS }>();
     let mut total = 0;
-    for (i, x) in accepted.iter().enumerate() {
-        let at = Limits::BID_NUMBERS * i;
-        let price = bids[at + Limits::PRICE_PLACE];
-        let quantity = bids[at + Limits::QUANTITY_PLACE];
-        let value = signed_value(price, quantity, *x);
+    for (i, &[_, price, quantity]) in bids.iter().enumerate() {
+        let value = signed_value(price, quantity, accepted[i]);
         total += value;
     }
     total
 }
 
-// Writes the sizes of numbers, one by one.
+// Writes the sizes of numbers. Sealing has this loop for residues; one that is given the function would say more in its contract than both loops do.
 pub fn write_sizes(numbers: &[i32], sizes: &mut [u32])
     requires { length sizes.old ≡ length numbers.now }
     ensures { sizes.new ≡ map nat_abs numbers.now }

@@ -6,6 +6,7 @@ use Rattle.definitions.specs.Limits.{pool_limit, bid_numbers, quantity_place}
 use Rattle.definitions.specs.Arithmetic.{on, sum_to}
 use Rattle.laws.specs.IntegerSize.{fits_size, size_fits}
 use Rattle.laws.specs.SignedTests.{back}
+use Rattle.laws.specs.BidTable.{pool_read, quantity_read}
 use Rattle.laws.specs.Tests.{on_le}
 use Rattle.sums.specs.declared.pools.Side.{Side}
 use Rattle.sums.specs.Pools.{stands, added_by, side_in}
@@ -25,15 +26,16 @@ moved : (side : Side) {n n' x x' q q' a a' : ℤ} → n ≡ n' → x ≡ x' → 
 moved side e f g h = cc (e, f, g, h)
 
 -- this turn's part, and its size
-part_is : (c : After-amount_in-part) → c.amount_in-part.result ≡ added_by c.args.side c.args.p c.args.bids.now c.args.amounts.now c.loop-i.i
+part_is : (c : After-amount_in-part) → c.amount_in-part.result ≡ added_by c.args.side c.args.p c.args.table.now c.args.amounts.now c.loop-i.i
 part_is c =
     let a = c.args in
     let i = c.loop-i.i in
+    let front = c.as_chunks.ensures in
     let few = c.requires.p_lt_pool_limit in
     c.amount_in-part.ensures
     ∙ moved a.side (ap (λ (z : ℤ). to_z w32 (of_z w32 z)) (next_pool a.p few) ∙ to_z-of_z (fits_size w32 (pos (suc a.p)) (omega (arith, few))))
-    (back w32 (get_or a.bids.now (bid_numbers * i) (pos 0)) c.pool-1.given)
-    (back w32 (get_or a.bids.now (bid_numbers * i + quantity_place) (pos 0)) c.quantity-1.given)
+    (pool_read a.table.now front.front front.front_len i c.loop-i-test.true c.pool-1.given)
+    (quantity_read a.table.now front.front front.front_len i c.loop-i-test.true c.quantity-1.given)
     (back w32 (get_or a.amounts.now i (pos 0)) c.amount-1.given)
 
 part_small : (c : After-amount_in-part) → c.amount_in-part.result ≤ 2 ^ 31
@@ -41,7 +43,7 @@ part_small c =
     let a = c.args in
     let i = c.loop-i.i in
     let amount : ℤ = get_or a.amounts.now i (pos 0) in
-    let here : Bool = stands a.side (pos (suc a.p)) (get_or a.bids.now (bid_numbers * i) (pos 0)) (get_or a.bids.now (bid_numbers * i + quantity_place) (pos 0)) in
+    let here : Bool = stands a.side (pos (suc a.p)) (get_or a.table.now (bid_numbers * i) (pos 0)) (get_or a.table.now (bid_numbers * i + quantity_place) (pos 0)) in
     omega (arith, part_is c, on_le here (nat_abs amount), size_fits w32 amount (sfits_of c.amount-1.given))
 
 pub loop-i-preserved : goal.loop-i-preserved
@@ -52,6 +54,6 @@ unfolding side_in
 returns c =
     let a = c.args in
     let e : c.loop-i.i ≡ length a.amounts.now = omega arith in (
-      c.loop-i.invariant.sum ∙ ap (λ (k : ℕ). sum_to k (added_by a.side a.p a.bids.now a.amounts.now)) e,
+      c.loop-i.invariant.sum ∙ ap (λ (k : ℕ). sum_to k (added_by a.side a.p a.table.now a.amounts.now)) e,
       omega arith,
     )

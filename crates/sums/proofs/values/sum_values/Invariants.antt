@@ -12,6 +12,6 @@ added bids accepted = bid_value (bids_only (length accepted) 0 bids) (λ i. get_
 
 abbrev pub invariant-loop-i : goal.invariant-loop-i
 invariant-loop-i l = record {
-  sum : l.total ≡ sum_z l.i (added l.bids l.accepted);
-  small : nat_abs (sum_z l.i (added l.bids l.accepted)) ≤ l.i * (2 ^ 31 * quantity_limit);
+  sum : l.total ≡ sum_z l.i (added l.table l.accepted);
+  small : nat_abs (sum_z l.i (added l.table l.accepted)) ≤ l.i * (2 ^ 31 * quantity_limit);
 }
