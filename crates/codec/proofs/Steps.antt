@@ -1,13 +1,11 @@
 -- One number of an order after another: what an answer says of the number that was read, and what then follows of the order.
-use Rattle.std.proofs.Common.{ℕ, ◌<◌, ◌≡◌, refl, ap, Bool, true, false, cond, List, ltb, arith}
+use Rattle.std.proofs.Common.{ℕ, ◌+◌, ◌<◌, ◌≡◌, refl, ap, Bool, true, false, cond, ltb, lt-ltb, arith}
 use Rattle.std.specs.declared.result.Result.{Result}
 use Rattle.std.specs.Prelude.{IsErrAnd}
 use Rattle.std.proofs.lemmas.Result.{err_from_is_err_and}
 use Rattle.definitions.specs.declared.Reason.{Reason}
 use Rattle.definitions.specs.Answers.{refuse, stated}
-use Rattle.definitions.specs.Limits.{modulus}
-use Rattle.definitions.specs.Bytes.{Read, fault, found, below, and_then, number_at, constant_at}
-use Rattle.laws.specs.Tests.{Lt?, less, more, lt?}
+use Rattle.definitions.specs.Bytes.{Number, short, bad, number, number_limit, placed, Read, fault, found, below, and_then}
 use Rattle.codec.specs.Answer.{ReadResult, given, refused, answer_at, result_answer, limited_answer, answer_found, answer_refused}
 
 -- what `?` gives on is the reason that it was given
@@ -26,23 +24,23 @@ module _ {A : Type 0} (place : ℕ) (r : Read ℕ) (f : ℕ → ℕ → Read A) 
   found_then {v} {next} e later = rw (answer_found place r v next e) later
 
 -- the limit of a kind, a cell, a constant
-pub limited_below : (place limit number : ℕ) (r : Read ℕ) → limited_answer limit (refuse number place) (answer_at place r) ≡ answer_at place (below limit number r)
-limited_below place limit number (fault k) = refl
-limited_below place limit number (found v next) = go (ltb v limit)
+pub limited_below : (place limit over : ℕ) (r : Read ℕ) → limited_answer limit (refuse over place) (answer_at place r) ≡ answer_at place (below limit over r)
+limited_below place limit over (fault k) = refl
+limited_below place limit over (found v next) = go (ltb v limit)
   where
-    go : (t : Bool) → cond t (given v next) (refused (refuse number place)) ≡ answer_at place (cond t (found v next) (fault number))
+    go : (t : Bool) → cond t (given v next) (refused (refuse over place)) ≡ answer_at place (cond t (found v next) (fault over))
     go true = refl
     go false = refl
 
--- a constant that was read fits 32 bits
-pub constant_below : (s : List ℕ) (at v next : ℕ) → constant_at s at ≡ found v next → v < modulus
-unfolding constant_at
-constant_below s at v next e = go (number_at s at) e
+-- the number that was read is the one that stands there
+pub placed_number : (v n : ℕ) (r : Number) → v < number_limit → placed 0 (number v n) ≡ placed 0 r → r ≡ number v n
+placed_number v n r h e = go r (rw (lt-ltb v number_limit h) at e)
   where
-    go : (r : Read ℕ) → below modulus 12 r ≡ found v next → v < modulus
-    go (fault k) e = cc
-    go (found w n) e = in_limit (lt? w modulus) e
-      where
-        in_limit : {t : Bool} → Lt? w modulus t → cond t (found w n) (fault 12) ≡ found v next → v < modulus
-        in_limit (less h) e = let p : w ≡ v = cc in omega arith
-        in_limit (more h) e = cc
+    in_limit : (w k : ℕ) (t : Bool) → found v (0 + n) ≡ cond t (found w (0 + k)) (fault 11) → number w k ≡ number v n
+    in_limit w k true e = let p : w ≡ v = cc in let q : 0 + k ≡ 0 + n = cc in let same : k ≡ n = omega arith in rw (p, same) refl
+    in_limit w k false e = cc
+
+    go : (r : Number) → found v (0 + n) ≡ placed 0 r → r ≡ number v n
+    go short e = cc
+    go bad e = cc
+    go (number w k) e = in_limit w k (ltb w number_limit) e

@@ -1,24 +1,22 @@
 // An order's bytes, read at an offset and written at one.
 #![tactic(auto)]
 
-ghost use Rattle.std.specs.Prelude.{◌≡◌, ◌≤◌, ◌++◌, ℕ, length, is_some};
+ghost use Rattle.std.specs.Prelude.{◌≡◌, ◌≤◌, ◌++◌, ℕ, true, length, is_some};
 ghost use Rattle.definitions.specs.Answers.{stated};
-ghost use Rattle.definitions.specs.Bytes.{most_groups, groups, number_bytes, order_bytes, read_groups, number_at, kind_at, cell_at, constant_at, order_at, cells_orders, of_kind};
+ghost use Rattle.definitions.specs.Bytes.{most_groups, groups, number_bytes, order_bytes, read_groups, placed, number_at, kind_at, cell_at, constant_at, order_at, cells_orders, of_kind};
 ghost use Rattle.definitions.specs.Plan.{over};
 ghost use Rattle.codec.specs.Answer.{answer_at, result_answer, groups_answer, limited_answer, kind_answer};
 ghost use Rattle.codec.specs.Written.{size_answer, has_room, written_size, written_bytes};
 
 use definitions::{Limits, Order, Parts, Reason};
 
-// A number has at most five groups, and is below 2^32.
+// A number has at most five groups.
 const MOST_GROUPS: usize = 5;
 
-const NUMBER_LIMIT: usize = 4_294_967_296;
-
 // The kinds are 0 to 5.
-const KINDS: usize = 6;
+const KINDS: u32 = 6;
 
-// Why no number begins some bytes: they end before its last group, or it isn't in its shortest form.
+// Why no number begins some bytes: they end before its last group, or it isn't one below 2^32 in its shortest form.
 #[derive(Clone, Copy)]
 enum Fault {
     CutShort,
@@ -48,8 +46,17 @@ fn read_groups(bytes: &[u8], g: usize, first: bool) -> Result<(usize, usize), Fa
     Ok((x % 128 + 128 * v, n + 1))
 }
 
+// A number below 2^32 at the head of some bytes, in its shortest form, and how many groups it has.
+fn read_number(bytes: &[u8]) -> Result<(u32, usize), Fault>
+    ensures { (at : ℕ) → placed at (groups_answer result) ≡ placed at (read_groups most_groups true bytes.now) }
+{
+    let (v, n) = read_groups(bytes, MOST_GROUPS, true)?;
+    let v = u32::try_from(v).map_err(|_| Fault::Form)?;
+    Ok((v, n))
+}
+
 // The bytes that an order is read from, and the offset of its first, which is the place of a refusal.
-// What is read comes with the offset after it: a cursor that moves would have to say in each contract what it keeps.
+// What is read comes with the offset after it, as in the definition: a cursor would keep that offset as a second one, beside the first byte's.
 #[derive(Clone, Copy)]
 struct Source<'a> {
     bytes: &'a [u8],
@@ -58,20 +65,19 @@ struct Source<'a> {
 
 impl Source<'_> {
     // A number below 2^32, in its shortest form.
-    fn number(&self, at: usize) -> Result<(usize, usize), Reason>
+    fn number(&self, at: usize) -> Result<(u32, usize), Reason>
         ensures { result_answer result ≡ answer_at self.now.start (number_at self.now.bytes.now at) }
     {
         let rest = self.bytes.get(at..).unwrap_or(&[]);
-        match read_groups(rest, MOST_GROUPS, true) {
-            Ok((v, n)) if v < NUMBER_LIMIT => Ok((v, at + n)),
-            Ok(_) => Err(Reason::Form(self.start)),
+        match read_number(rest) {
+            Ok((v, n)) => Ok((v, at + n)),
             Err(Fault::Form) => Err(Reason::Form(self.start)),
             Err(Fault::CutShort) => Err(Reason::CutShort(self.start)),
         }
     }
 
     // A number below a limit, else the reason.
-    fn limited(&self, at: usize, limit: usize, over: Reason) -> Result<(usize, usize), Reason>
+    fn limited(&self, at: usize, limit: u32, over: Reason) -> Result<(u32, usize), Reason>
         ensures { result_answer result ≡ limited_answer limit (stated over) (answer_at self.now.start (number_at self.now.bytes.now at)) }
     {
         let (v, next) = self.number(at)?;
@@ -82,7 +88,7 @@ impl Source<'_> {
     }
 
     // The order's kind.
-    fn kind(&self) -> Result<(usize, usize), Reason>
+    fn kind(&self) -> Result<(u32, usize), Reason>
         ensures { result_answer result ≡ answer_at self.now.start (kind_at self.now.bytes.now self.now.start) }
     {
         self.limited(self.start, KINDS, Reason::Kind(self.start))
@@ -92,19 +98,20 @@ impl Source<'_> {
     fn cell(&self, at: usize) -> Result<(usize, usize), Reason>
         ensures { result_answer result ≡ answer_at self.now.start (cell_at self.now.bytes.now at) }
     {
-        self.limited(at, Limits::CELLS, Reason::Operand(self.start))
+        let (c, next) = self.limited(at, Limits::CELLS as u32, Reason::Operand(self.start))?;
+        Ok((c as usize, next))
     }
 
     // The order's constant.
-    fn constant(&self, at: usize) -> Result<(usize, usize), Reason>
+    fn constant(&self, at: usize) -> Result<(u32, usize), Reason>
         ensures { result_answer result ≡ answer_at self.now.start (constant_at self.now.bytes.now at) }
     {
-        self.limited(at, Limits::MODULUS as usize, Reason::Operand(self.start))
+        self.limited(at, Limits::MODULUS, Reason::Operand(self.start))
     }
 }
 
 // The order of a kind with two cells. The kinds are document 01's numbers: an enum of kinds would list these and the orders once more.
-fn cells_order(kind: usize, d: usize, a: usize, b: usize) -> Option<Order>
+fn cells_order(kind: u32, d: usize, a: usize, b: usize) -> Option<Order>
     ensures { (next : ℕ) → kind_answer next result ≡ of_kind kind next (cells_orders d a b) }
 {
     match kind {
@@ -126,7 +133,7 @@ pub fn read_order(bytes: &[u8], at: usize) -> Result<(Order, usize), Reason>
     let (d, next) = source.cell(next)?;
     if kind == 0 {
         let (k, next) = source.constant(next)?;
-        return Ok((Order::Constant { d, k: k as u32 }, next));
+        return Ok((Order::Constant { d, k }, next));
     }
     let (a, next) = source.cell(next)?;
     let (b, next) = source.cell(next)?;
@@ -167,7 +174,7 @@ fn order_size(order: Order) -> usize
 }
 
 // Writes a number's groups, of which there are at most g, at the head of a slice, and gives how many they are.
-// It shares no code with the digits of `listing` and `host`: order, count and marks of the digits differ.
+// By hand: the library writes numbers as bytes and as decimal digits, and has no form of base 128 with a mark on all digits but the last.
 fn put_groups(out: &mut [u8], v: usize, g: usize) -> usize
     requires { length (groups g v) ≤ length out.old }
     ensures size { result ≡ length (groups g v) }
@@ -223,10 +230,7 @@ pub fn write_order(out: &mut [u8], at: usize, order: Order) -> Option<usize>
     ensures size { size_answer result ≡ written_size out.old at order }
     ensures bytes { out.new ≡ written_bytes out.old at order }
 {
-    if out.len() < at {
-        return None;
-    }
-    let room = &mut out[at..];
+    let (_, room) = out.split_at_mut_checked(at)?;
     if room.len() < order_size(order) {
         return None;
     }

@@ -44,7 +44,7 @@ impl Limits {
     pub const POOL_RESULTS: usize = 2;
 }
 
-// An order of the machine: its target cell d, then a constant or the two cells that it reads.
+// An order of the machine: its target cell d, then a constant or the two cells that it reads. Document 01 names this form.
 #[derive(Clone, Copy)]
 pub enum Order {
     Constant { d: usize, k: u32 },
@@ -133,7 +133,8 @@ impl Error for Reason {}
 // What a call that only judges or writes answers: nothing is refused, or the reason.
 pub type Verdict = Result<(), Reason>;
 
-// An order by its numbers: its kind, its target, its constant, and the two cells that it reads; 0 where it has none.
+// An order by its numbers: its kind, its target, its constant, and the two cells that it reads. A number that the kind does not have is 0, not an
+// `Option`: the kind says which numbers are read, so no order has another constant or cell to mistake it for.
 #[derive(Clone, Copy)]
 pub struct Parts {
     pub kind: u32,
@@ -143,7 +144,7 @@ pub struct Parts {
     pub b: usize,
 }
 
-// The numbers of an order: "An order begins with its kind, 0 to 5".
+// Document 01 has the machine decide by the number of an order's kind, so an order is given as its numbers too.
 impl From<Order> for Parts {
     ghost from_gives = { λ order parts. parts ≡ parts_of order };
 
@@ -229,11 +230,18 @@ impl Counts {
         self.m * self.m
     }
 
+    // How many numbers both tables have: the bids and the capacities.
+    pub fn inputs(self) -> usize
+        ensures { result ≡ bid_numbers * self.n + self.m * self.m }
+    {
+        self.bid_numbers() + self.lines()
+    }
+
     // The first result cell: behind the bids and the capacities.
     pub fn first_result(self) -> usize
         ensures { result ≡ first_result self.n self.m }
     {
-        self.bid_numbers() + self.lines()
+        self.inputs()
     }
 
     // How many results there are.

@@ -1,2 +1,3 @@
--- A sheet holds residues exactly if no cell is refused.
+-- A sheet holds residues exactly if no cell is refused; and what is said of a book's counts and lengths.
 pub mod Cells
+pub mod Tables

@@ -6,7 +6,8 @@ ghost use Rattle.definitions.specs.Limits.{pool_limit, cell_count, bid_numbers};
 ghost use Rattle.definitions.specs.Arithmetic.{within};
 ghost use Rattle.definitions.specs.Answers.{refusal_of, numbered};
 ghost use Rattle.definitions.specs.Book.{book, book_of};
-ghost use Rattle.definitions.specs.Calls.{pools_refusal, counts_refusal, length_refusal, bid_fault, bid_refusal, bids_refusal, capacity_fault, capacities_refusal, seal_refusal, cells_refusal, results_refusal};
+ghost use Rattle.definitions.specs.Calls.{pools_refusal, counts_refusal, bid_fault, bid_refusal, bids_refusal, capacity_fault, capacities_refusal, seal_refusal, cells_refusal, results_refusal};
+ghost use Rattle.judging.specs.Tables.{tables_refusal};
 
 use definitions::{Counts, LentBook, Limits, Reason, Verdict};
 
@@ -15,7 +16,7 @@ fn judge_pools(m: usize) -> Verdict
     ensures refusal { refusal_of result ≡ pools_refusal m }
     ensures within { IfOk result (λ _. (1 ≤ m) × (m ≤ pool_limit)) }
 {
-    if m == 0 || Limits::POOLS < m {
+    if !(1..=Limits::POOLS).contains(&m) {
         return Err(Reason::PoolCount);
     }
     Ok(())
@@ -45,23 +46,27 @@ pub fn judge_results(n: usize, m: usize, results: usize) -> Result<Counts, Reaso
     Ok(counts)
 }
 
-// The lengths of both tables and of the sheet: 3.
-fn judge_lengths(counts: Counts, bids: usize, capacities: usize, cells: usize) -> Verdict
-    ensures { refusal_of result ≡ length_refusal ((eqb bids (bid_numbers * counts.n) && eqb capacities (counts.m * counts.m)) && eqb cells cell_count) }
+// Both counts, then the lengths of both tables: 1, 2, 3.
+pub fn judge_tables(book: &LentBook) -> Result<Counts, Reason>
+    ensures refusal { refusal_of result ≡ tables_refusal (book_of book.now) }
+    ensures counts { IfOk result (λ counts. (counts.n ≡ book.now.n) × (counts.m ≡ book.now.m)) }
 {
-    if bids != counts.bid_numbers() || capacities != counts.lines() || cells != Limits::CELLS {
+    let counts = judge_counts(book.n, book.m)?;
+    if book.bids.len() != counts.bid_numbers() || book.capacities.len() != counts.lines() {
         return Err(Reason::Length);
     }
-    Ok(())
+    Ok(counts)
 }
 
+// The definition's own test of a range, so that each judge asks it in one word.
 fn is_within(low: i32, high: i32, v: i32) -> bool
     ensures { result ≡ within low high v }
 {
-    low <= v && v <= high
+    (low..=high).contains(&v)
 }
 
-// One bid: 4, 5, 6.
+// One bid: 4, 5, 6. Its numbers come as the table and `judge_bid` have them: a struct would be made here to be taken apart. Of the counts only m is
+// asked, with its bound: a bid judged alone has no n.
 fn judge_numbers(m: usize, pool: i32, price: i32, quantity: i32, place: usize) -> Verdict
     requires { m ≤ pool_limit }
     ensures { refusal_of result ≡ numbered (bid_fault m pool price quantity) place }
@@ -87,21 +92,18 @@ pub fn judge_bid(m: usize, pool: i32, price: i32, quantity: i32) -> Verdict
 }
 
 // The bids one by one, each by its number.
-fn judge_bids(counts: Counts, bids: &[i32]) -> Verdict
-    requires { length bids.now ≡ bid_numbers * counts.n }
-    ensures { refusal_of result ≡ bids_refusal (book counts.n counts.m bids.now []) }
+fn judge_bids(counts: Counts, table: &[i32]) -> Verdict
+    requires { length table.now ≡ bid_numbers * counts.n }
+    ensures { refusal_of result ≡ bids_refusal (book counts.n counts.m table.now []) }
 {
-    for i in 0..counts.n {
-        let at = Limits::BID_NUMBERS * i;
-        let pool = bids[at];
-        let price = bids[at + Limits::PRICE_PLACE];
-        let quantity = bids[at + Limits::QUANTITY_PLACE];
+    let (bids, _) = table.as_chunks::<{ Limits::BID_NUMBERS }>();
+    for (i, &[pool, price, quantity]) in bids.iter().enumerate() {
         judge_numbers(counts.m, pool, price, quantity, i + 1)?;
     }
     Ok(())
 }
 
-// One entry of the capacity table: 8 on the diagonal, 7 off it.
+// One entry of the capacity table: 8 on the diagonal, 7 off it. The flag is the definition's own.
 fn judge_capacity(diagonal: bool, capacity: i32, place: usize) -> Verdict
     ensures { refusal_of result ≡ numbered (capacity_fault diagonal capacity) place }
 {
@@ -117,7 +119,8 @@ fn judge_capacity(diagonal: bool, capacity: i32, place: usize) -> Verdict
     Ok(())
 }
 
-// The capacities by rows: the first bad one ends the search.
+// The capacities by rows: the first bad one ends the search. Document 01 names this form, two loops left by a label, so `?` does not leave them. The
+// table is one slice, of which m, no constant, says how long a row is.
 fn judge_capacities(counts: Counts, capacities: &[i32]) -> Verdict
     requires { length capacities.now ≡ counts.m * counts.m }
     ensures { refusal_of result ≡ capacities_refusal (book 0 counts.m [] capacities.now) }
@@ -142,8 +145,11 @@ pub fn judge_book(book: &LentBook, cells: usize) -> Result<Counts, Reason>
     ensures refusal { refusal_of result ≡ seal_refusal (book_of book.now) cells }
     ensures counts { IfOk result (λ counts. (counts.n ≡ book.now.n) × (counts.m ≡ book.now.m)) }
 {
-    let counts = judge_counts(book.n, book.m)?;
-    judge_lengths(counts, book.bids.len(), book.capacities.len(), cells)?;
+    let counts = judge_tables(book)?;
+    if cells != Limits::CELLS {
+        return Err(Reason::Length);
+    }
+    // `and` has both judge, at the cost of 16 numbers at most, so that which of them comes first stands in one equation.
     judge_bids(counts, book.bids).and(judge_capacities(counts, book.capacities))?;
     Ok(counts)
 }

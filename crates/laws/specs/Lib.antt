@@ -5,8 +5,10 @@ pub mod Sum
 pub mod All
 pub mod Extremes
 pub mod SignedTests
+pub mod BidTable
 pub mod IntegerSize
 pub mod Write
+pub mod Chunks
 pub mod Refusal
 pub mod Verdicts
 pub mod Search

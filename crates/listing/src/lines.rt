@@ -8,7 +8,7 @@ ghost use Rattle.listing.specs.Page.{Wrote};
 use crate::page::Page;
 use crate::results::Results;
 
-// A flow no greater has no line.
+// The limit of the flows that have a line: "only flows above 0".
 const NO_FLOW: i32 = 0;
 
 impl Page<'_> {
@@ -50,7 +50,7 @@ impl Page<'_> {
         self.put_last(welfare);
     }
 
-    // A refusal's line: its number and its place.
+    // A refusal's line: its number and its place. It is not `Reason`'s `Display`: a caller lends any number and place.
     pub(crate) fn put_refused(&mut self, number: usize, place: usize)
         ensures { Wrote self.old (refused_text number place) self.new }
     {

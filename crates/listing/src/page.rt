@@ -13,6 +13,7 @@ pub(crate) struct Page<'a> {
     ghost within: { size ≤ length out.now },
 }
 
+// Texts and numbers are put one by one, where `write!` would print them: it ensures its bytes of a `String` only, and there is no heap.
 impl Page<'_> {
     ghost use Rattle.listing.specs.Lines.{last_field};
     ghost use Rattle.listing.specs.Page.{Wrote};

@@ -38,9 +38,6 @@ impl Results<'_> {
     {
         let at = self.counts.n + self.counts.lines() + Limits::POOL_RESULTS * p;
         let presence = self.numbers[at + 1];
-        if 0 < presence {
-            return Some(self.numbers[at]);
-        }
-        None
+        (0 < presence).then_some(self.numbers[at])
     }
 }

@@ -2,13 +2,13 @@
 use Rattle.std.specs.Prelude.{ℕ, ◌+◌, ◌*◌, Bool, cond, List, ltb, eqb, set, take, drop, ℤ, pos, nat_abs, Option, Some, None, Ok, Err, is_err}
 use Rattle.std.specs.declared.result.Result.{Result}
 use Rattle.std.specs.Int.Signed.{lt_z}
-use Rattle.std.specs.Result.{result_and}
+use Rattle.definitions.specs.declared.Counts.{Counts}
 use Rattle.definitions.specs.declared.Reason.{Reason}
+use Rattle.definitions.specs.declared.Reason.TheVariants.{BidCount, PoolCount}
 use Rattle.definitions.specs.Limits.{bid_limit, pool_limit, bid_numbers}
 use Rattle.definitions.specs.Book.{book}
-use Rattle.definitions.specs.Answers.{Refusal, stated}
-use Rattle.definitions.specs.Calls.{counts_refusal}
-use Rattle.laws.specs.Verdicts.{verdict_of}
+use Rattle.definitions.specs.Answers.{stated}
+use Rattle.laws.specs.Tests.{Lt?, less, more, lt?}
 use Rattle.definitions.specs.Settle as settle
 use Rattle.stages.specs.Words.{Ended}
 use Rattle.stages.specs.declared.Stage.{Stage}
@@ -29,31 +29,39 @@ Progress = Result Stage Unsettled
 abbrev pub Input : Type 0
 Input = Result Tables Unsettled
 
+-- ---- the counts
+
+-- the counts are within their limits or not: what is judged of them
+unfoldable pub judged_by : (n m : ℕ) {t u v : Bool} → Lt? bid_limit n t → Lt? 0 m u → Lt? pool_limit m v → Result Counts Reason
+judged_by n m (less h) k l = Err BidCount
+judged_by n m (more h) (more k) l = Err PoolCount
+judged_by n m (more h) (less k) (less l) = Err PoolCount
+judged_by n m (more h) (less k) (more l) = Ok (record { n = n; m = m; bids_fit = h; some_pools = k; pools_fit = l })
+
+-- both counts, or why they are refused
+abbrev pub judged : (n m : ℕ) → Result Counts Reason
+judged n m = judged_by n m (lt? bid_limit n) (lt? 0 m) (lt? pool_limit m)
+
+-- how many numbers the tables have
+abbrev pub called : (n m : ℕ) → ℕ
+called n m = bid_numbers * n + m * m
+
 -- ---- the numbers read
 
--- what the counts call for, by what is said of them: how many numbers the tables have, or the refusal
-abbrev pub called_by : (n m : ℕ) → Refusal → Result ℕ Reason
-called_by n m r = result_and (verdict_of r) (Ok (bid_numbers * n + m * m))
-
--- what n and m call for
-abbrev pub called_for : (n m : ℕ) → Result ℕ Reason
-called_for n m = called_by n m (counts_refusal n m)
-
 -- both counts are read
-abbrev pub begun : (n m : ℕ) → Result ℕ Reason → Progress
-begun n m (Ok called) = Ok (stage.Tables n m 0)
-begun n m (Err reason) = Err (Refused reason)
+abbrev pub begun : Result Counts Reason → Progress
+begun (Ok counts) = Ok (stage.Tables counts 0)
+begun (Err reason) = Err (Refused reason)
 
 -- one number more of the tables
-abbrev pub one_number_more : (n m read : ℕ) → Result ℕ Reason → Progress
-one_number_more n m read (Ok called) = cond (ltb read called) (Ok (stage.Tables n m (read + 1))) (Err Unreadable)
-one_number_more n m read (Err reason) = Err Unreadable
+abbrev pub one_number_more : Counts → (read : ℕ) → Progress
+one_number_more counts read = cond (ltb read (called counts.n counts.m)) (Ok (stage.Tables counts (read + 1))) (Err Unreadable)
 
 -- a number more; n and m are not below 0
 abbrev pub counted_by : Stage → ℤ → Progress
 counted_by stage.First z = cond (lt_z z (pos 0)) (Err Unreadable) (Ok (stage.Second (nat_abs z)))
-counted_by (stage.Second n) z = cond (lt_z z (pos 0)) (Err Unreadable) (begun n (nat_abs z) (called_for n (nat_abs z)))
-counted_by (stage.Tables n m read) z = one_number_more n m read (called_for n m)
+counted_by (stage.Second n) z = cond (lt_z z (pos 0)) (Err Unreadable) (begun (judged n (nat_abs z)))
+counted_by (stage.Tables counts read) z = one_number_more counts read
 
 -- the stage after a word has ended; one that is no number makes the text unreadable, and an answer stays
 abbrev pub taken_by : Progress → Ended → Progress
@@ -63,15 +71,14 @@ taken_by (Ok s) (Err fault) = Err Unreadable
 taken_by (Err why) ended = Err why
 
 -- where the next number is stored, if it is one of the tables'
-abbrev pub place_within : (read : ℕ) → Result ℕ Reason → Option ℕ
-place_within read (Ok called) = cond (ltb read called) (Some read) None
-place_within read (Err reason) = None
+abbrev pub place_within : Counts → (read : ℕ) → Option ℕ
+place_within counts read = cond (ltb read (called counts.n counts.m)) (Some read) None
 
 -- where the number that comes next in a stage is stored
 abbrev pub place_for : Progress → Option ℕ
 place_for (Ok stage.First) = None
 place_for (Ok (stage.Second n)) = None
-place_for (Ok (stage.Tables n m read)) = place_within read (called_for n m)
+place_for (Ok (stage.Tables counts read)) = place_within counts read
 place_for (Err why) = None
 
 -- the numbers with the one of a word that has ended, if it has a place
@@ -88,15 +95,14 @@ decided s = is_err s
 -- ---- the answer
 
 -- the text ends in the tables: they are complete, or it is unreadable
-abbrev pub completed : (n m read : ℕ) → Result ℕ Reason → Input
-completed n m read (Ok called) = cond (eqb read called) (Ok (record { n = n; m = m })) (Err Unreadable)
-completed n m read (Err reason) = Err Unreadable
+abbrev pub completed : Counts → (read : ℕ) → Input
+completed counts read = cond (eqb read (called counts.n counts.m)) (Ok (record { n = counts.n; m = counts.m })) (Err Unreadable)
 
 -- what the text is if it ends in this stage
 abbrev pub stage_input : Progress → Input
 stage_input (Ok stage.First) = Err Unreadable
 stage_input (Ok (stage.Second n)) = Err Unreadable
-stage_input (Ok (stage.Tables n m read)) = completed n m read (called_for n m)
+stage_input (Ok (stage.Tables counts read)) = completed counts read
 stage_input (Err why) = Err why
 
 -- what each answer says of the text, with the numbers stored: first those of the bids, then those of the capacities

@@ -1,10 +1,10 @@
 -- What a text is by the words that are left of it, stage by stage. Its theorems: one word more (`word_taken`), and the end of the text (`text_ended`).
-use Rattle.std.specs.Prelude.{ℕ, ◌+◌, ◌*◌, ◌≤◌, ◌<◌, ◌≡◌, refl, Bool, true, false, List, [], ◌∷◌, ◌++◌, ltb, eqb, length, take, drop, set, ℤ, pos, negsuc, None, Ok, Err}
+use Rattle.std.specs.Prelude.{ℕ, ◌+◌, ◌*◌, ◌≤◌, ◌<◌, ◌≡◌, refl, Bool, true, false, cond, ◌||◌, List, [], ◌∷◌, ◌++◌, ltb, eqb, length, take, drop, set, ℤ, pos, negsuc, None, Ok, Err}
 use Rattle.std.specs.declared.result.Result.{Result}
-use Rattle.std.proofs.Common.{sym, ap, ◌∙◌, append-nil, arith, add-one, mul-le-mul_right, length-append, length-set, length-take-le, take-take, take-add, drop_at, take-suc-set, ltb-true, ltb-false, eqb-true, lt-ltb, le-ltb, ne_eqb}
+use Rattle.std.proofs.Common.{sym, ap, ◌∙◌, append-nil, arith, add-one, mul-le-mul_right, length-append, length-set, length-take-le, take-take, take-add, drop_at, take-suc-set, ltb-true, ltb-false, eqb-true, lt-ltb, le-ltb, eq-eqb, ne_eqb}
 use Rattle.std.proofs.Math.Seq.{append_snoc}
 use Rattle.std.specs.Int.Signed.{lt_z}
-use Rattle.std.proofs.lemmas.Bool.{eqb-false}
+use Rattle.definitions.specs.declared.Counts.{Counts}
 use Rattle.definitions.specs.declared.Reason.{Reason}
 use Rattle.definitions.specs.declared.Reason.TheVariants.{BidCount, PoolCount}
 use Rattle.definitions.specs.Limits.{bid_limit, pool_limit, bid_numbers}
@@ -14,12 +14,9 @@ use Rattle.definitions.specs.Settle.{Whole, no_number, whole, Numbers, no_number
 use Rattle.definitions.specs.Settle as settle
 use Rattle.stages.specs.declared.Stage.TheVariants as stage
 use Rattle.stages.specs.declared.Unsettled.TheVariants.{Unreadable, Refused}
-use Rattle.stages.specs.Counting.{table_numbers, Progress, called_for, begun, taken_by, place_for, stored_at, stage_input, input_for}
+use Rattle.stages.specs.Counting.{table_numbers, Progress, judged_by, judged, called, begun, taken_by, place_for, stored_at, stage_input, input_for}
+use Rattle.laws.specs.Tests.{Lt?, less, more, lt?}
 use Rattle.stages.specs.Values.{ended_for}
-
--- how many numbers the tables have
-abbrev pub called : (n m : ℕ) → ℕ
-called n m = bid_numbers * n + m * m
 
 -- the counts pass
 abbrev pub Passed : (n m : ℕ) → Type 0
@@ -28,33 +25,31 @@ Passed n m = (n ≤ bid_limit) × (0 < m) × (m ≤ pool_limit)
 pub called_fits : (n m : ℕ) → Passed n m → called n m ≤ table_numbers
 called_fits n m p = omega (arith, p.0, p.1, p.2, mul-le-mul_right m p.2)
 
-counts_passed : (n m : ℕ) → Passed n m → called_for n m ≡ Ok (called n m)
-counts_passed n m p = rw (le-ltb bid_limit n p.0, ne_eqb m 0 (omega arith), le-ltb pool_limit m p.2) refl
+-- those that a stage holds do
+numbers_fit : (counts : Counts) → called counts.n counts.m ≤ table_numbers
+numbers_fit counts = called_fits counts.n counts.m (counts.bids_fit, counts.some_pools, counts.pools_fit)
 
 -- the counts pass, or n or m is refused
-pub data Counted (n m : ℕ) : Result ℕ Reason → Refusal → Type 0 where
-  pass : Passed n m → Counted n m (Ok (called n m)) none
+pub data Counted (n m : ℕ) : Result Counts Reason → Refusal → Type 0 where
+  pass : (counts : Counts) → counts.n ≡ n → counts.m ≡ m → Counted n m (Ok counts) none
   bids : Counted n m (Err BidCount) (refuse 1 0)
   pools : Counted n m (Err PoolCount) (refuse 2 0)
 
-counted : (n m : ℕ) → Counted n m (called_for n m) (counts_refusal n m)
-counted n m = go (ltb bid_limit n) refl (eqb m 0) refl (ltb pool_limit m) refl
+pub counted : (n m : ℕ) → Counted n m (judged n m) (counts_refusal n m)
+unfolding judged_by
+counted n m = go (lt? bid_limit n) (lt? 0 m) (lt? pool_limit m)
   where
-    go : (t : Bool) → ltb bid_limit n ≡ t → (u : Bool) → eqb m 0 ≡ u → (v : Bool) → ltb pool_limit m ≡ v → Counted n m (called_for n m) (counts_refusal n m)
-    go true e u f v g = rw e bids
-    go false e true f v g = rw (e, f) pools
-    go false e false f true g = rw (e, f, g) pools
-    go false e false f false g =
-        let a = ltb-false bid_limit n e in
-        let b = eqb-false m 0 f in
-        let d = ltb-false pool_limit m g in
-        rw (e, f, g) (pass (omega arith, omega arith, omega arith))
+    go : {t u v : Bool} (h : Lt? bid_limit n t) (k : Lt? 0 m u) (l : Lt? pool_limit m v) → Counted n m (judged_by n m h k l) (cond t (refuse 1 0) (cond (eqb m 0 || v) (refuse 2 0) none))
+    go (less h) k l = bids
+    go (more h) (more k) l = rw (eq-eqb m 0 (omega arith)) pools
+    go (more h) (less k) (less l) = rw (ne_eqb m 0 (omega arith)) pools
+    go (more h) (less k) (more l) = rw (ne_eqb m 0 (omega arith)) (pass _ refl refl)
 
--- in every stage that a text leads to: the counts pass, and no more numbers are stored than called for
+-- in every stage that a text leads to no more numbers are stored than called for
 abbrev pub Held : Progress → Type 0
 Held (Ok stage.First) = Unit {0}
 Held (Ok (stage.Second n)) = Unit {0}
-Held (Ok (stage.Tables n m read)) = Passed n m × (read ≤ called n m)
+Held (Ok (stage.Tables counts read)) = read ≤ called counts.n counts.m
 Held (Err why) = Unit {0}
 
 -- numbers after some that are stored
@@ -71,7 +66,7 @@ second_count n (word ∷ words) = with_counts (whole (pos n)) (whole_of word) wo
 abbrev pub continued : Progress → List ℤ → List (List ℕ) → settle.Input
 continued (Ok stage.First) stored words = input_of words
 continued (Ok (stage.Second n)) stored words = second_count n words
-continued (Ok (stage.Tables n m read)) stored words = tables n m (after (take read stored) (word_numbers words))
+continued (Ok (stage.Tables counts read)) stored words = tables counts.n counts.m (after (take read stored) (word_numbers words))
 continued (Err Unreadable) stored words = unreadable
 continued (Err (Refused reason)) stored words = refused (stated reason)
 
@@ -98,11 +93,11 @@ after_none : (zs : Numbers) → after [] zs ≡ zs
 after_none no_numbers = refl
 after_none (numbers zs) = refl
 
-counts_read : (n m : ℕ) (stored : List ℤ) (words : List (List ℕ)) → after_counts n m (counts_refusal n m) words ≡ continued (begun n m (called_for n m)) stored words
+counts_read : (n m : ℕ) (stored : List ℤ) (words : List (List ℕ)) → after_counts n m (counts_refusal n m) words ≡ continued (begun (judged n m)) stored words
 counts_read n m stored words = go (counted n m)
   where
-    go : {c : Result ℕ Reason} {r : Refusal} → Counted n m c r → after_counts n m r words ≡ continued (begun n m c) stored words
-    go (pass p) = ap (tables n m) (sym (after_none (word_numbers words)))
+    go : {c : Result Counts Reason} {r : Refusal} → Counted n m c r → after_counts n m r words ≡ continued (begun c) stored words
+    go (pass counts e f) = rw (e, f) (ap (tables n m) (sym (after_none (word_numbers words))))
     go bids = refl
     go pools = refl
 
@@ -111,13 +106,9 @@ second_count_lem n no_number stored words = refl
 second_count_lem n (whole (pos m)) stored words = rw (no_sign m) (counts_read n m stored words)
 second_count_lem n (whole (negsuc m)) stored words = refl
 
-begun_held : (n m : ℕ) → Held (begun n m (called_for n m))
-begun_held n m = go (counted n m)
-  where
-    go : {c : Result ℕ Reason} {r : Refusal} → Counted n m c r → Held (begun n m c)
-    go (pass p) = (p, omega arith)
-    go bids = tt
-    go pools = tt
+begun_held : (r : Result Counts Reason) → Held (begun r)
+begun_held (Ok counts) = omega arith
+begun_held (Err reason) = tt
 
 -- ---- The tables
 
@@ -159,29 +150,35 @@ first_held (whole (negsuc n)) = tt
 
 second_held : (n : ℕ) (k : Whole) → Held (taken_by (Ok (stage.Second n)) (ended_for k))
 second_held n no_number = tt
-second_held n (whole (pos m)) = rw (no_sign m) (begun_held n m)
+second_held n (whole (pos m)) = rw (no_sign m) (begun_held (judged n m))
 second_held n (whole (negsuc m)) = tt
 
-tables_taken : (n m read : ℕ) (stored : List ℤ) (z : ℤ) (words : List (List ℕ)) → Passed n m → read ≤ called n m → length stored ≡ table_numbers
-    → Taken (Ok (stage.Tables n m read)) stored (whole z) words (tables n m (after (take read stored) (prepend (whole z) (word_numbers words))))
-tables_taken n m read stored z words p h l = go (ltb read (called n m)) refl
+tables_taken : (counts : Counts) (read : ℕ) (stored : List ℤ) (z : ℤ) (words : List (List ℕ)) → read ≤ called counts.n counts.m → length stored ≡ table_numbers
+    → Taken (Ok (stage.Tables counts read)) stored (whole z) words (tables counts.n counts.m (after (take read stored) (prepend (whole z) (word_numbers words))))
+tables_taken counts read stored z words h l = go (ltb read (called n m)) refl
   where
-    go : (t : Bool) → ltb read (called n m) ≡ t → Taken (Ok (stage.Tables n m read)) stored (whole z) words (tables n m (after (take read stored) (prepend (whole z) (word_numbers words))))
+    n : ℕ
+    n = counts.n
+
+    m : ℕ
+    m = counts.m
+
+    go : (t : Bool) → ltb read (called n m) ≡ t → Taken (Ok (stage.Tables counts read)) stored (whole z) words (tables n m (after (take read stored) (prepend (whole z) (word_numbers words))))
     go true e =
         let a = ltb-true read (called n m) e in
-        let b = called_fits n m p in
+        let b = numbers_fit counts in
         record {
-          same = rw (counts_passed n m p, e, lt-ltb read table_numbers (omega arith)) (one_stored n m read stored z (word_numbers words) (omega arith));
-          held = rw (counts_passed n m p, e) (p, omega arith);
-          long = rw (counts_passed n m p, e, lt-ltb read table_numbers (omega arith)) (length-set stored read z ∙ l);
+          same = rw (e, lt-ltb read table_numbers (omega arith)) (one_stored n m read stored z (word_numbers words) (omega arith));
+          held = rw e (omega arith);
+          long = rw (e, lt-ltb read table_numbers (omega arith)) (length-set stored read z ∙ l);
         }
     go false e =
         let a = ltb-false read (called n m) e in
-        let b = called_fits n m p in
+        let b = numbers_fit counts in
         record {
-          same = rw (counts_passed n m p, e) (too_many n m read stored z (word_numbers words) (length-take-le read stored (omega arith) ∙ (let q : read ≡ called n m = omega arith in q)));
-          held = rw (counts_passed n m p, e) tt;
-          long = rw (counts_passed n m p, e) l;
+          same = rw e (too_many n m read stored z (word_numbers words) (length-take-le read stored (omega arith) ∙ (let q : read ≡ called n m = omega arith in q)));
+          held = rw e tt;
+          long = rw e l;
         }
 
 pub word_taken : (s : Progress) (stored : List ℤ) (word : List ℕ) (k : Whole) (words : List (List ℕ)) → Held s → length stored ≡ table_numbers
@@ -191,8 +188,8 @@ word_taken (Ok stage.First) stored word k words h l e =
     record { same = first_count word k (stored_at (ended_for k) None stored) words e; held = first_held k; long = rw (no_place k stored) l }
 word_taken (Ok (stage.Second n)) stored word k words h l e =
     record { same = rw e (second_count_lem n k (stored_at (ended_for k) None stored) words); held = second_held n k; long = rw (no_place k stored) l }
-word_taken (Ok (stage.Tables n m read)) stored word no_number words h l e = record { same = rw e refl; held = tt; long = l }
-word_taken (Ok (stage.Tables n m read)) stored word (whole z) words h l e = rw e (tables_taken n m read stored z words h.0 h.1 l)
+word_taken (Ok (stage.Tables counts read)) stored word no_number words h l e = record { same = rw e refl; held = tt; long = l }
+word_taken (Ok (stage.Tables counts read)) stored word (whole z) words h l e = rw e (tables_taken counts read stored z words h l)
 word_taken (Err Unreadable) stored word k words h l e = record { same = refl; held = tt; long = rw (no_place k stored) l }
 word_taken (Err (Refused reason)) stored word k words h l e = record { same = refl; held = tt; long = rw (no_place k stored) l }
 
@@ -208,15 +205,21 @@ pub text_ended : (s : Progress) (stored : List ℤ) → Held s → length stored
 unfolding word_numbers
 text_ended (Ok stage.First) stored h l = refl
 text_ended (Ok (stage.Second n)) stored h l = refl
-text_ended (Ok (stage.Tables n m read)) stored h l = go (eqb read (called n m)) refl
+text_ended (Ok (stage.Tables counts read)) stored h l = go (eqb read (called n m)) refl
   where
-    go : (t : Bool) → eqb read (called n m) ≡ t → tables n m (numbers (take read stored ++ [])) ≡ input_for (stage_input (Ok (stage.Tables n m read))) stored
+    n : ℕ
+    n = counts.n
+
+    m : ℕ
+    m = counts.m
+
+    go : (t : Bool) → eqb read (called n m) ≡ t → tables n m (numbers (take read stored ++ [])) ≡ input_for (stage_input (Ok (stage.Tables counts read))) stored
     go true e =
         let q = eqb-true read (called n m) e in
-        let b = called_fits n m h.0 in
-        rw (append-nil (take read stored), counts_passed n m h.0, e, length-take-le read stored (omega arith), e, q, take-take (bid_numbers * n) (called n m) stored (omega arith), tables_stored n m stored (omega arith)) refl
+        let b = numbers_fit counts in
+        rw (append-nil (take read stored), e, length-take-le read stored (omega arith), e, q, take-take (bid_numbers * n) (called n m) stored (omega arith), tables_stored n m stored (omega arith)) refl
     go false e =
-        let b = called_fits n m h.0 in
-        rw (append-nil (take read stored), counts_passed n m h.0, e, length-take-le read stored (omega arith), e) refl
+        let b = numbers_fit counts in
+        rw (append-nil (take read stored), e, length-take-le read stored (omega arith), e) refl
 text_ended (Err Unreadable) stored h l = refl
 text_ended (Err (Refused reason)) stored h l = refl

@@ -1,29 +1,12 @@
 -- Last theorem: a word read byte by byte ends as the number that document 01 reads it as, however many digits it has.
-use Rattle.std.specs.Prelude.{ℕ, zero, suc, ◌+◌, ◌-◌, ◌*◌, ◌≤◌, ◌<◌, ◌≡◌, refl, Bool, true, false, cond, ◌&&◌, List, [], ◌∷◌, ◌++◌, ltb, leb, eqb, ℤ, pos, negsuc, neg_ℤ}
-use Rattle.std.proofs.Common.{sym, ◌∙◌, arith, ltb-true, ltb-false, lt-ltb, le-ltb, le-leb}
+use Rattle.std.specs.Prelude.{ℕ, zero, suc, ◌+◌, ◌-◌, ◌*◌, ◌≤◌, ◌≡◌, refl, Bool, true, false, cond, ◌&&◌, List, [], ◌∷◌, ◌++◌, leb, eqb, ℤ, pos, negsuc, neg_ℤ}
+use Rattle.std.proofs.Common.{sym, arith, le-leb}
 use Rattle.std.proofs.lemmas.Bool.{lt-leb}
 use Rattle.definitions.specs.Settle.{Whole, no_number, whole, digits_from, digits, signed, fitting32, whole_of}
 use Rattle.stages.specs.declared.words.Word.{Word}
 use Rattle.stages.specs.declared.words.Word.TheVariants.{Empty, Minus, Digits, NoNumber}
-use Rattle.stages.specs.Words.{greatest_size, least_size, beyond, capped, digits_of, grown_by, Ended, number, fault, signed_of, ended_of}
-
--- ---- A saturated value stays out of range, and any other is exact
-
-pub capped_exact : (v : ℕ) → v < beyond → capped v ≡ v
-capped_exact v h = rw (lt-ltb v beyond h) refl
-
-pub capped_beyond : (v : ℕ) → beyond ≤ v → capped v ≡ beyond
-capped_beyond v h = rw (le-ltb v beyond h) refl
-
--- one digit more of a capped value
-pub capped_digit : (v d : ℕ) → capped (10 * capped v + d) ≡ capped (10 * v + d)
-capped_digit v d = go (ltb v beyond) refl
-  where
-    go : (t : Bool) → ltb v beyond ≡ t → capped (10 * capped v + d) ≡ capped (10 * v + d)
-    go true e = rw (capped_exact v (ltb-true v beyond e)) refl
-    go false e =
-        let h = ltb-false v beyond e in
-        rw (capped_beyond v h) (capped_beyond (10 * beyond + d) (omega arith) ∙ sym (capped_beyond (10 * v + d) (omega arith)))
+use Rattle.laws.specs.Tests.{Lt?, less, more, lt?}
+use Rattle.stages.specs.Words.{greatest_size, least_size, beyond, kept, digits_of, grown_by, Ended, number, fault, signed_of, ended_of}
 
 -- ---- The number at the word's end
 
@@ -36,30 +19,17 @@ ended_cond : (t : Bool) (z : ℤ) → ended_for (cond t (whole z) no_number) ≡
 ended_cond true z = refl
 ended_cond false z = refl
 
-negative_capped : (v : ℕ) → signed_of (digits_of true (capped v)) ≡ ended_for (fitting32 (whole (neg_ℤ (pos v))))
-negative_capped zero = refl
-negative_capped (suc u) = go (ltb (suc u) beyond) refl
+negative_exact : (v : ℕ) → signed_of (digits_of true v) ≡ ended_for (fitting32 (whole (neg_ℤ (pos v))))
+negative_exact zero = refl
+negative_exact (suc u) = go (lt? u least_size)
   where
-    go : (t : Bool) → ltb (suc u) beyond ≡ t → signed_of (digits_of true (capped (suc u))) ≡ ended_for (fitting32 (whole (negsuc u)))
-    go true e =
-        let h = ltb-true (suc u) beyond e in
-        rw (capped_exact (suc u) h, le-leb (suc u) least_size (omega arith), le-leb u (least_size - 1) (omega arith)) refl
-    go false e =
-        let h = ltb-false (suc u) beyond e in
-        rw (capped_beyond (suc u) h, lt-leb u (least_size - 1) (omega arith)) refl
+    go : {t : Bool} → Lt? u least_size t → signed_of (digits_of true (suc u)) ≡ ended_for (fitting32 (whole (negsuc u)))
+    go (less h) = rw (le-leb (suc u) least_size (omega arith), le-leb u (least_size - 1) (omega arith)) refl
+    go (more h) = rw (lt-leb (suc u) least_size (omega arith), lt-leb u (least_size - 1) (omega arith)) refl
 
-positive_capped : (v : ℕ) → signed_of (digits_of false (capped v)) ≡ ended_for (fitting32 (whole (pos v)))
-positive_capped v = go (ltb v beyond) refl
-  where
-    go : (t : Bool) → ltb v beyond ≡ t → signed_of (digits_of false (capped v)) ≡ ended_for (fitting32 (whole (pos v)))
-    go true e = rw (capped_exact v (ltb-true v beyond e)) (sym (ended_cond (leb v greatest_size) (pos v)))
-    go false e =
-        let h = ltb-false v beyond e in
-        rw (capped_beyond v h, lt-leb v greatest_size (omega arith)) refl
-
-pub signed_capped : (negative : Bool) (v : ℕ) → signed_of (digits_of negative (capped v)) ≡ ended_for (fitting32 (whole (cond negative (neg_ℤ (pos v)) (pos v))))
-signed_capped true v = negative_capped v
-signed_capped false v = positive_capped v
+pub signed_exact : (negative : Bool) (v : ℕ) → signed_of (digits_of negative v) ≡ ended_for (fitting32 (whole (cond negative (neg_ℤ (pos v)) (pos v))))
+signed_exact true v = negative_exact v
+signed_exact false v = sym (ended_cond (leb v greatest_size) (pos v))
 
 -- ---- The word's bytes
 
@@ -78,15 +48,38 @@ unfolding word_from
 no_number_stays [] = refl
 no_number_stays (byte ∷ bytes) = no_number_stays bytes
 
-digits_ended : (negative : Bool) (bytes : List ℕ) (v : ℕ) → ended_of (word_from (Digits (digits_of negative (capped v))) bytes) ≡ ended_for (fitting32 (digits_from negative v bytes))
-unfolding word_from digits_from
-digits_ended negative [] v = signed_capped negative v
-digits_ended negative (byte ∷ bytes) v = go (leb 48 byte && leb byte 57) refl (digits_ended negative bytes)
+-- of a value beyond 32 bits no digits make a number
+too_great : (negative : Bool) (bytes : List ℕ) (v : ℕ) → beyond ≤ v → ended_for (fitting32 (digits_from negative v bytes)) ≡ fault
+unfolding digits_from
+too_great true [] zero h = absurd (omega arith)
+too_great true [] (suc u) h = rw (lt-leb u (least_size - 1) (omega arith)) refl
+too_great false [] v h = rw (lt-leb v greatest_size (omega arith)) refl
+too_great negative (byte ∷ bytes) v h = go (leb 48 byte && leb byte 57) refl (too_great negative bytes (10 * v + (byte - 48)) (omega arith))
   where
-    go : (t : Bool) → (leb 48 byte && leb byte 57) ≡ t
-        → ((u : ℕ) → ended_of (word_from (Digits (digits_of negative (capped u))) bytes) ≡ ended_for (fitting32 (digits_from negative u bytes)))
-        → ended_of (word_from (Digits (digits_of negative (capped v))) (byte ∷ bytes)) ≡ ended_for (fitting32 (digits_from negative v (byte ∷ bytes)))
-    go true e onward = rw (e, capped_digit v (byte - 48)) (onward (10 * v + (byte - 48)))
+    go : (t : Bool) → (leb 48 byte && leb byte 57) ≡ t → ended_for (fitting32 (digits_from negative (10 * v + (byte - 48)) bytes)) ≡ fault
+        → ended_for (fitting32 (digits_from negative v (byte ∷ bytes))) ≡ fault
+    go true e onward = rw e onward
+    go false e onward = rw e refl
+
+-- what a word is that begins with digits of this value
+abbrev Ends : (negative : Bool) (bytes : List ℕ) (v : ℕ) → Word → Type 0
+Ends negative bytes v word = ended_of (word_from word bytes) ≡ ended_for (fitting32 (digits_from negative v bytes))
+
+kept_ended : (negative : Bool) (bytes : List ℕ) (v : ℕ) → Ends negative bytes v (Digits (digits_of negative v)) → Ends negative bytes v (kept negative v)
+kept_ended negative bytes v within = go (lt? v beyond)
+  where
+    go : {t : Bool} → Lt? v beyond t → Ends negative bytes v (cond t (Digits (digits_of negative v)) NoNumber)
+    go (less h) = within
+    go (more h) = rw (no_number_stays bytes) (sym (too_great negative bytes v h))
+
+digits_ended : (negative : Bool) (bytes : List ℕ) (v : ℕ) → Ends negative bytes v (Digits (digits_of negative v))
+unfolding word_from digits_from
+digits_ended negative [] v = signed_exact negative v
+digits_ended negative (byte ∷ bytes) v = go (leb 48 byte && leb byte 57) refl (digits_ended negative bytes (10 * v + (byte - 48)))
+  where
+    go : (t : Bool) → (leb 48 byte && leb byte 57) ≡ t → Ends negative bytes (10 * v + (byte - 48)) (Digits (digits_of negative (10 * v + (byte - 48))))
+        → Ends negative (byte ∷ bytes) v (Digits (digits_of negative v))
+    go true e onward = rw e (kept_ended negative bytes (10 * v + (byte - 48)) onward)
     go false e onward = rw (e, no_number_stays bytes) refl
 
 -- a minus is read, or none

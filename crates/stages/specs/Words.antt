@@ -6,9 +6,9 @@ use Rattle.stages.specs.declared.words.Word.TheVariants.{Empty, Minus, Digits, N
 use Rattle.stages.specs.declared.words.Digits as digits
 use Rattle.stages.specs.declared.words.NoNumber as ended
 
--- the value that stands for every size beyond those of signed 32 bits
+-- a value no less is beyond 32 bits
 abbrev pub beyond : ℕ
-beyond = 2147483649
+beyond = 4294967296
 
 -- the size of the greatest number of signed 32 bits
 abbrev pub greatest_size : ℕ
@@ -18,10 +18,6 @@ greatest_size = 2147483647
 abbrev pub least_size : ℕ
 least_size = 2147483648
 
--- a size, exact up to there
-abbrev pub capped : ℕ → ℕ
-capped value = cond (ltb value beyond) value beyond
-
 -- digits of that sign and value
 abbrev pub digits_of : (negative : Bool) (value : ℕ) → digits.Digits
 digits_of negative value = record { negative = negative; value = value }
@@ -30,10 +26,13 @@ digits_of negative value = record { negative = negative; value = value }
 abbrev pub no_digits : (negative : Bool) → digits.Digits
 no_digits negative = digits_of negative 0
 
+-- digits of that value while it is within 32 bits; beyond them no number, whatever follows
+abbrev pub kept : (negative : Bool) (value : ℕ) → Word
+kept negative value = cond (ltb value beyond) (Digits (digits_of negative value)) NoNumber
+
 -- digits, then one byte more
 abbrev pub digit_after : digits.Digits → (byte : ℕ) → Word
-digit_after d byte =
-    cond (leb 48 byte && leb byte 57) (Digits (digits_of d.negative (capped (10 * d.value + (byte - 48))))) NoNumber
+digit_after d byte = cond (leb 48 byte && leb byte 57) (kept d.negative (10 * d.value + (byte - 48))) NoNumber
 
 -- a word with one byte more
 abbrev pub grown_by : Word → ℕ → Word

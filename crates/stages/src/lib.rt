@@ -4,10 +4,10 @@
 ghost use Rattle.std.specs.Prelude.{◌≡◌, cond, pos, nat_abs, Ok, Err};
 ghost use Rattle.std.specs.Int.Signed.{lt_z};
 ghost use Rattle.stages.specs.declared.Unsettled.TheVariants.{Unreadable, Refused};
-ghost use Rattle.stages.specs.Counting.{taken_by, counted_by, called_for, place_for, place_within, stored_at, stage_input};
+ghost use Rattle.stages.specs.Counting.{taken_by, counted_by, place_for, place_within, stored_at, stage_input};
 
 use crate::words::{Ended, NoNumber};
-use definitions::{Limits, Reason};
+use definitions::{Counts, Limits, Reason};
 use judging::judge_counts;
 
 pub mod words;
@@ -26,11 +26,19 @@ impl From<Reason> for Unsettled {
     ghost from_gives = { λ reason why. why ≡ Refused reason };
 
     fn from(reason: Reason) -> Unsettled {
-        Unsettled::Refused(reason)
+        Self::Refused(reason)
     }
 }
 
-// A text that has all the numbers of its tables, by its counts.
+impl From<NoNumber> for Unsettled {
+    ghost from_gives = { λ _ why. why ≡ Unreadable };
+
+    fn from(_: NoNumber) -> Unsettled {
+        Self::Unreadable
+    }
+}
+
+// A text that has all the numbers of its tables, by its counts: plain numbers, as whoever settles a text may give any.
 #[derive(Clone, Copy, Debug, PartialEq, Eq)]
 pub struct Tables {
     pub n: usize,
@@ -45,28 +53,17 @@ pub type Input = Result<Tables, Unsettled>;
 pub enum Stage {
     First,
     Second { n: usize },
-    Tables { n: usize, m: usize, read: usize },
+    Tables { counts: Counts, read: usize },
 }
 
 // The stage, or the answer where it is known, whatever follows.
 pub type Progress = Result<Stage, Unsettled>;
 
-// 1 and 2, or how many numbers n bids and m rows of m capacities have.
-fn call_for(n: usize, m: usize) -> Result<usize, Reason>
-    ensures { result ≡ called_for n m }
-{
-    let counts = judge_counts(n, m)?;
-    Ok(counts.bid_numbers() + counts.lines())
-}
-
 // Where the next number of the tables is stored: nowhere if they have no more.
-fn place_within(n: usize, m: usize, read: usize) -> Option<usize>
-    ensures { result ≡ place_within read (called_for n m) }
+fn place_within(counts: Counts, read: usize) -> Option<usize>
+    ensures { result ≡ place_within counts read }
 {
-    match call_for(n, m) {
-        Ok(called) if read < called => Some(read),
-        _ => None,
-    }
+    (read < counts.inputs()).then_some(read)
 }
 
 // A count is not below 0.
@@ -85,13 +82,16 @@ fn count(stage: Stage, z: i32) -> Progress
         // 1 and 2 are answered before the rest is looked at.
         Stage::Second { n } => {
             let m = count_of(z)?;
-            judge_counts(n, m)?;
-            Ok(Stage::Tables { n, m, read: 0 })
+            let counts = judge_counts(n, m)?;
+            Ok(Stage::Tables { counts, read: 0 })
         }
-        Stage::Tables { n, m, read } => match place_within(n, m, read) {
-            Some(at) => Ok(Stage::Tables { n, m, read: at + 1 }),
-            None => Err(Unsettled::Unreadable),
-        },
+        Stage::Tables { counts, read } => {
+            let at = place_within(counts, read).ok_or(Unsettled::Unreadable)?;
+            Ok(Stage::Tables {
+                counts,
+                read: at + 1,
+            })
+        }
     }
 }
 
@@ -100,10 +100,9 @@ pub fn take_word(stage: Progress, ended: Ended) -> Progress
     ensures { result ≡ taken_by stage ended }
 {
     let stage = stage?;
-    match ended {
-        Ok(Some(z)) => count(stage, z),
-        Ok(None) => Ok(stage),
-        Err(NoNumber {}) => Err(Unsettled::Unreadable),
+    match ended? {
+        Some(z) => count(stage, z),
+        None => Ok(stage),
     }
 }
 
@@ -112,7 +111,7 @@ pub fn place(stage: Progress) -> Option<usize>
     ensures { result ≡ place_for stage }
 {
     match stage {
-        Ok(Stage::Tables { n, m, read }) => place_within(n, m, read),
+        Ok(Stage::Tables { counts, read }) => place_within(counts, read),
         _ => None,
     }
 }
@@ -134,7 +133,10 @@ pub fn answer(stage: Progress) -> Input
     ensures { result ≡ stage_input stage }
 {
     match stage? {
-        Stage::Tables { n, m, read } if call_for(n, m) == Ok(read) => Ok(Tables { n, m }),
+        Stage::Tables { counts, read } if read == counts.inputs() => Ok(Tables {
+            n: counts.n,
+            m: counts.m,
+        }),
         _ => Err(Unsettled::Unreadable),
     }
 }

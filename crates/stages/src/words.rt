@@ -40,13 +40,12 @@ impl Word {
         match self {
             Word::Empty => Ok(None),
             Word::Digits(digits) => digits.end(),
-            Word::Minus => Err(NoNumber {}),
-            Word::NoNumber => Err(NoNumber {}),
+            Word::Minus | Word::NoNumber => Err(NoNumber {}),
         }
     }
 }
 
-// Digits by their sign and their value.
+// Digits by their sign and their value, which is within 32 bits: beyond them a word is no number, whatever digits follow.
 #[derive(Clone, Copy)]
 pub struct Digits {
     negative: bool,
@@ -54,9 +53,6 @@ pub struct Digits {
 }
 
 impl Digits {
-    // Stands for every value beyond signed 32 bits, so that no number of digits is too many.
-    const BEYOND: u64 = 2_147_483_649;
-
     // No digit yet.
     fn none(negative: bool) -> Digits
         ensures { result ≡ no_digits negative }
@@ -72,10 +68,10 @@ impl Digits {
             return Word::NoNumber;
         }
         let value = 10 * u64::from(self.value) + u64::from(byte - b'0');
-        Word::Digits(Digits {
-            negative: self.negative,
-            value: value.min(Digits::BEYOND) as u32,
-        })
+        match u32::try_from(value) {
+            Ok(value) => Word::Digits(Digits { value, ..self }),
+            Err(_) => Word::NoNumber,
+        }
     }
 
     // The number of that sign and size, if it is within signed 32 bits.
@@ -84,10 +80,7 @@ impl Digits {
     {
         let size = i64::from(self.value);
         let z = if self.negative { -size } else { size };
-        match i32::try_from(z) {
-            Ok(z) => Ok(Some(z)),
-            Err(_) => Err(NoNumber {}),
-        }
+        i32::try_from(z).map(Some).map_err(|_| NoNumber {})
     }
 }
 

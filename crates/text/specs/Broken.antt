@@ -74,7 +74,7 @@ byte_no_book : (word : Word) (s : Progress) (stored : List ℤ) → NoBook (stag
 unfolding after_byte word_ended
 byte_no_book word (Ok stage.First) stored = rw (no_number_lem word) tt
 byte_no_book word (Ok (stage.Second n)) stored = rw (no_number_lem word) tt
-byte_no_book word (Ok (stage.Tables n m read)) stored = rw (no_number_lem word) tt
+byte_no_book word (Ok (stage.Tables counts read)) stored = rw (no_number_lem word) tt
 byte_no_book word (Err why) stored = tt
 
 broken_no_book : (s : Reading) → NoBook (stage_input (word_ended (fed s failed_read)).reader.stage)

@@ -27,13 +27,11 @@ pub fn word(input: &[u8], k: usize) -> u32
     ensures { result ≡ word_at input.now k }
 {
     let (words, _) = input.as_chunks::<{ Words::SIZE }>();
-    match words.get(k) {
-        Some(bytes) => u32::from_le_bytes(*bytes),
-        None => 0,
-    }
+    words.get(k).map_or(0, |bytes| u32::from_le_bytes(*bytes))
 }
 
-// A word as an unsigned number.
+// A word as an unsigned number, with `word`'s 0 behind the last.
+// `word`, `number` and `signed` read one word in three types: one function of them all would name its type at each call.
 pub fn number(input: &[u8], k: usize) -> usize
     ensures { result ≡ word_at input.now k }
 {
@@ -44,7 +42,7 @@ pub fn number(input: &[u8], k: usize) -> usize
 pub fn signed(input: &[u8], k: usize) -> i32
     ensures { result ≡ signed_word (word_at input.now k) }
 {
-    word(input, k).cast_signed()
+    i32::from_word(word(input, k))
 }
 
 // ---- Which input is that of a call

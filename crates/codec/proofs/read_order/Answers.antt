@@ -1,5 +1,5 @@
 -- `read_order` meets its contract, number by number: each is refused, or is followed by the next.
-use Rattle.std.proofs.Common.{ℕ, ◌≡◌, refl, arith, eq-eqb, ne_eqb, Option, Some, None, Ok, Err}
+use Rattle.std.proofs.Common.{ℕ, ◌≡◌, refl, eq-eqb, ne_eqb, Option, Some, None, Ok, Err}
 use Rattle.std.specs.Prelude.{ok_or}
 use Rattle.definitions.specs.declared.Order.{Order}
 use Rattle.definitions.specs.declared.Order.TheVariants.{Constant}
@@ -7,8 +7,8 @@ use Rattle.definitions.specs.declared.Reason.{Reason}
 use Rattle.definitions.specs.declared.Reason.TheVariants.{Kind}
 use Rattle.definitions.specs.Answers.{stated}
 use Rattle.definitions.specs.Bytes.{Read, found, kind_at, cell_at, constant_at, cells_orders, of_kind, last_at, rest_at, target_at, order_at}
-use Rattle.codec.specs.Answer.{ReadResult, given, refused, answer_at, kind_answer, answer_found}
-use Rattle.codec.proofs.Steps.{refused_as, refused_then, found_then, constant_below}
+use Rattle.codec.specs.Answer.{ReadResult, given, refused, answer_at, kind_answer}
+use Rattle.codec.proofs.Steps.{refused_as, refused_then, found_then}
 use Rattle.codec.proofs.read_order.Goals as goal
 use Rattle.codec.proofs.read_order.Goals.{In_ok-kind, In_ok-d, In_ok-a, In_ok-b}
 
@@ -72,11 +72,6 @@ returns-in_err-k c =
     let r = c.from_residual-in_err-k in
     let d = c.in_ok-d in
     refused_as r.result _ r.ensures.1 (behind_target (goal.at.returns-in_err-k c).In_ok-d (rw (eq-eqb c.in_ok-kind.kind 0 c.if-kind-eq0.true) (refused_then c.args.at (constant_at c.args.bytes.now d.next) (whole d.d) _ c.in_err-k.ensures)))
-
-pub overflow_cast-result : goal.overflow_cast-result
-overflow_cast-result c =
-    let answer = answer_found c.args.at (constant_at c.args.bytes.now c.in_ok-d.next) _ _ c.in_ok-k.ensures in
-    omega (arith, constant_below c.args.bytes.now c.in_ok-d.next _ _ answer)
 
 pub returns-then-kind-eq0 : goal.returns-then-kind-eq0
 unfolding rest_at

@@ -10,5 +10,5 @@ bid_at B i = numbered (bid_fault B.m (pool B i) (price B i) (quantity B i)) (i +
 
 abbrev pub invariant-loop-i : goal.invariant-loop-i
 invariant-loop-i l =
-    let B = book l.counts.n l.counts.m l.bids [] in
+    let B = book l.counts.n l.counts.m l.table [] in
     bids_refusal B ≡ first_from l.i (l.counts.n - l.i) (bid_at B)
