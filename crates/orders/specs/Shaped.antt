@@ -1,6 +1,8 @@
 -- What the code knows of a phase: its numbers (`IsShape`), a place in it (`InPhase`), the order there (`order_in`).
 use Rattle.std.specs.Prelude.{◌≡◌, ◌≢◌, List, [], ◌∷◌, ℕ, zero, suc, ◌+◌, ◌*◌, ◌-◌, ◌%◌, ◌/◌, ◌≤◌, ◌<◌, length, get_or}
 use Rattle.std.proofs.Common.{sym, ◌∙◌, mod-lt, div-lt_iff_lt-mul, div-add-mod', arith, refl, ap}
+use Rattle.std.proofs.Math.Decide.{dec_lt}
+use Rattle.std.proofs.lemmas.List.{get_or_past}
 use Rattle.definitions.specs.Arithmetic.{sum_to}
 use Rattle.laws.specs.Sizes.{Counts}
 use Rattle.plan.specs.Orders.{OrderOn, constant}
@@ -13,8 +15,6 @@ use Rattle.plan.specs.Subsets.{lowest}
 use Rattle.orders.specs.Limits.{part_limit, stretch_limit}
 use Rattle.orders.specs.declared.shape.Columns.{Columns}
 use Rattle.orders.specs.declared.shape.Shape.{Shape}
-use Rattle.std.proofs.Math.Decide.{dec_lt}
-use Rattle.std.proofs.lemmas.List.{get_or_past}
 use Rattle.orders.specs.declared.shape.Spot.{Spot}
 use Rattle.orders.specs.Named.{made, at_turn, subset_lowest}
 use Rattle.plan.specs.Phased.{PartOf, no_part, part_at, part_size, row_size, phase_size, phase_in, Has, has_here, in_even, block_each, even_length}

@@ -93,13 +93,14 @@ pub fn price_order(p: usize, turn: usize) -> NamedOrder
 
 // Order s of the sums over all subsets; a is the cell of the set's lowest pool.
 #[tactic(auto, using(crate::specs::Named::subset_first, crate::specs::Named::subset_next))]
-pub fn subset_order(m: usize, s: usize, a: Name) -> NamedOrder
-    ensures { named_of result ≡ made (subset_block m (λ p. name_of a) s) 0 }
+pub fn subset_order(counts: Counts, s: usize, a: Name) -> NamedOrder
+    requires { s < 2 ^ counts.m }
+    ensures { named_of result ≡ made (subset_block counts.m (λ p. name_of a) s) 0 }
 {
     if s == 0 {
         return NamedOrder::Constant(first(Subsets, s), 0);
     }
-    sum(first(Subsets, s), first(Subsets, other_pools(m, s)), a)
+    sum(first(Subsets, s), first(Subsets, other_pools(counts, s)), a)
 }
 
 // Is bid j before bid i?

@@ -90,7 +90,7 @@ fn cuts(counts: Counts, s: Spot) -> NamedOrder
     let m = counts.m;
     let set = s.column;
     if s.part == 0 {
-        return subset_order(m, set, first(Demands, lowest_pool(m, set)));
+        return subset_order(counts, set, first(Demands, lowest_pool(counts, set)));
     }
     if s.turn == 0 {
         return sum(first(Cuts, set), first(Subsets, set), first(ZeroCells, 0));
@@ -129,7 +129,7 @@ fn ranks(counts: Counts, sizes: Family, ranks: Family, s: Spot) -> NamedOrder
     let m = counts.m;
     let set = s.column;
     match s.part {
-        0 => subset_order(m, set, cell(sizes, s.row, lowest_pool(m, set))),
+        0 => subset_order(counts, set, cell(sizes, s.row, lowest_pool(counts, set))),
         1 => NamedOrder::Constant(first(ranks, s.row), Limits::POSITIVE as usize),
         _ => cost_turn(counts, first(ranks, s.row), set, s.turn),
     }
@@ -162,7 +162,7 @@ fn slacks(counts: Counts, s: Spot) -> NamedOrder
     let m = counts.m;
     let set = s.column;
     if s.part == 0 {
-        return subset_order(m, set, first(Placements, lowest_pool(m, set)));
+        return subset_order(counts, set, first(Placements, lowest_pool(counts, set)));
     }
     difference(first(Slacks, set), first(Cuts, set), first(Subsets, set))
 }

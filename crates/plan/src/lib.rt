@@ -105,6 +105,6 @@ impl Family {
     ];
 }
 
-// A family's place on the sheet: its number there, and how many rows and columns it has.
+// A family's place on the sheet: its number there, and how many rows and columns it has. No names, so that a family is one line of `family_place`.
 #[derive(Clone, Copy)]
 pub struct Place(pub usize, pub usize, pub usize);
