@@ -2,6 +2,7 @@
 -- a position, the plan's run, and its bytes.
 pub mod Limits
 pub mod Digits
+pub mod Families
 pub mod Named
 pub mod Shaped
 pub mod Tables

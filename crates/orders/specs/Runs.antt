@@ -12,7 +12,7 @@ use Rattle.definitions.specs.Plan.{Plan}
 use Rattle.laws.specs.Refusal.{unless_refused}
 use Rattle.laws.specs.Sizes.{counted}
 use Rattle.machine.specs.Step.{stepped, stepped_all, stepped_append}
-use Rattle.machine.specs.Run.{stepped_all_is}
+use Rattle.machine.specs.Run.{stepped_all_is, stepped_all_length}
 use Rattle.plan.specs.Orders.{OrderOn, constant, order_of, renamed}
 use Rattle.plan.specs.Names.{Name, ZeroCell}
 use Rattle.plan.specs.Loops.{loop}
@@ -53,6 +53,10 @@ module _ (n m : ℕ) where
   pub ran_plan : (s : List ℕ) → ran_of (flat (table n m)) s ≡ stepped_all (plan n m) s
   unfolding ran_of plan
   ran_plan s = refl
+
+  pub ran_length : (l : List (OrderOn Name)) (s : List ℕ) → length (ran_of l s) ≡ length s
+  unfolding ran_of
+  ran_length l s = stepped_all_length (map order_of (map (renamed (cell_of n m)) l)) s
 
   ran_append : (x y : List (OrderOn Name)) (s : List ℕ) → ran_of (x ++ y) s ≡ ran_of y (ran_of x s)
   unfolding ran_of

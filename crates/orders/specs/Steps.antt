@@ -26,6 +26,11 @@ pub record IsAt (n m : ℕ) (l : List (OrderOn Name)) (x : ℕ) (r : Order) : Ty
   pub there : Has l x order
   pub is : r ≡ numbered_of n m order
 
+-- before the first phase there is nothing
+pub first_phase_start : (ps : List Phase) (x : ℕ) → phase_start ps 0 + x ≡ x
+unfolding phase_start sum_to
+first_phase_start ps x = omega arith
+
 -- ---- in a row
 
 -- place x of a row is place y of part q
