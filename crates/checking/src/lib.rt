@@ -11,21 +11,23 @@ ghost use Rattle.plan.specs.Plan.{plan};
 ghost use Rattle.checking.specs.Checked.{found_optimal};
 
 use clearing::clear;
-use definitions::{Counts, LentBook, Limits, Reason};
+use definitions::{LentBook, Limits, Reason, Verdict};
 use feasible::{Sent, is_feasible, judge_sent};
 use judging::judge_book;
 use sums::welfare_sent;
 
 // Counts and all lengths, then the book as at sealing: 1 to 8.
 #[tactic(auto, unfolding(definitions::specs::Checks::check_refusal))]
-fn judge_check(book: &LentBook, sent: &Sent) -> Result<Counts, Reason>
+fn judge_check(book: &LentBook, sent: &Sent) -> Verdict
     ensures { refusal_of result ≡ check_refusal (book_of book.now) (length sent.now.amounts.now) (length sent.now.flows.now) }
 {
     judge_sent(book, sent.amounts.len(), sent.flows.len())?;
-    judge_book(book, Limits::CELLS)
+    judge_book(book, Limits::CELLS)?;
+    Ok(())
 }
 
-// The welfare that clearing the book gives, on a sheet of its own; 0 for a book that is refused.
+// The welfare that clearing the book gives, on a sheet of its own. For a refused book it is 0, as document 01 has it, and so no `Option`: `check` has
+// turned such a book away before it asks.
 fn cleared_welfare(book: &LentBook) -> i64
     ensures { result ≡ clear_welfare plan (book_of book.now) cell_count }
 {
@@ -46,6 +48,5 @@ pub fn check(book: &LentBook, sent: &Sent) -> Result<bool, Reason>
     ensures answer { Exactly (given_or false result) (Passes (book_of book.now) sent.now.amounts.now sent.now.flows.now) }
 {
     judge_check(book, sent)?;
-    let yes = is_optimal(book, sent);
-    Ok(yes)
+    Ok(is_optimal(book, sent))
 }

@@ -1,5 +1,6 @@
 // Sums over the bids of a pool, and over the lines that enter or leave it. Each adds turn by turn, under an invariant that bounds it: the library's
 // `sum` asks for that bound of one list, and these lists are made of two slices, or of every m-th number.
+// Limits stand in the contracts, and no `Counts`: a sum is also asked of numbers that no judge has passed, and `is_summable` is its test of them.
 ghost use Rattle.std.specs.Prelude.{◌≡◌, ℕ, ◌+◌, ◌*◌, ◌<◌, ◌≤◌, length, get_or, pos, nat_abs};
 ghost use Rattle.definitions.specs.Limits.{bid_limit, pool_limit, bid_numbers};
 ghost use Rattle.definitions.specs.Arithmetic.{on, sum_to};
@@ -49,7 +50,7 @@ fn amount_in(side: Side, number: i32, pool: i32, quantity: i32, amount: i32) -> 
     }
 }
 
-// The accepted purchases of pool p, from 0, or its accepted sales.
+// The accepted purchases of pool p, from 0, or its accepted sales. Amounts go by the bid's index, as the definition has it: `zip` gives pairs without.
 pub fn side_in(side: Side, p: usize, table: &[i32], amounts: &[i32]) -> usize
     requires p_lt_pool_limit { p < pool_limit }
     requires table_len { length table.now ≡ bid_numbers * length amounts.now }

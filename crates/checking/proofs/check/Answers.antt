@@ -6,4 +6,4 @@ use Rattle.checking.proofs.check.Goals as goal
 
 pub returns-clause-answer : goal.returns-clause-answer
 returns-clause-answer c =
-    answer_exact (book_of c.args.book.now) c.args.sent.now.amounts.now c.args.sent.now.flows.now (sym c.in_ok-judge_check.ensures) c.is_optimal-yes.result c.is_optimal-yes.ensures
+    answer_exact (book_of c.args.book.now) c.args.sent.now.amounts.now c.args.sent.now.flows.now (sym c.in_ok-judge_check.ensures) c.is_optimal.result c.is_optimal.ensures
