@@ -164,6 +164,7 @@ fn print_counted(rt: &impl Print, orders: Result<usize, Reason>) -> io::Result<(
 }
 
 // ---- Opening: n and m; sheet, results
+// Opening and running lend two slices each, of different types, and print different things: only the lending is one function.
 
 fn call_open(rt: &impl Print, input: &[u8]) -> Result<(), Failure> {
     let [sheet, results] = slices::<2>(input, 3).ok_or(Failure::Unreadable)?;

@@ -59,7 +59,8 @@ impl Page<'_> {
         self.put(b"\n");
     }
 
-    // The lines of all bids.
+    // The lines of all bids. The loops over bids, lines and pools put one line each: one that is given the line as a closure would say more in its
+    // contract than they do.
     pub(crate) fn put_bids(&mut self, results: &Results)
         ensures { Wrote self.old (bid_lines results.now.counts.n results.now.numbers.now) self.new }
     {

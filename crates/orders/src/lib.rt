@@ -98,7 +98,8 @@ impl Plan {
     }
 }
 
-// Runs the plan on a sheet, and gives how many orders it has; refused counts leave the sheet as it was.
+// Runs the plan on a sheet, and gives how many orders it has; refused counts leave the sheet as it was. Any counts may be given, so they are plain
+// numbers, and opening's calls have the same: only the sheet is lent, and a struct of all three would be taken apart at once.
 pub fn run_plan(n: usize, m: usize, sheet: &mut [u32]) -> Result<usize, Reason>
     ensures refusal { refusal_of result ≡ counts_refusal n m }
     ensures count { given_or 0 result ≡ total plan n m }

@@ -70,7 +70,7 @@ fn number(family: Family) -> usize
     family as usize
 }
 
-// How many orders each phase has, for so many scratch cells.
+// How many orders each phase has, for so many scratch cells: as for `shape_of` and for the tables' field, their number is known once the layout is.
 fn sizes_of(counts: Counts, scratch: usize) -> [usize; PHASES]
     requires { scratch ≡ scratch_count counts.n counts.m }
     ensures { IsSizes counts.n counts.m result }
