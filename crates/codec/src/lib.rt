@@ -161,7 +161,7 @@ fn number_size(v: usize) -> usize
     group_count(v, MOST_GROUPS)
 }
 
-// How many bytes an order has. Here and in `put_order` one test tells the constant from two cells: a match would name all six cases.
+// How many bytes an order has. Here and in `put_order` the kind that is written says whether a constant or two cells follow, as in `numbers_of`.
 fn order_size(order: Order) -> usize
     ensures { result ≡ length (order_bytes order) }
 {

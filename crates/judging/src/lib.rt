@@ -65,7 +65,7 @@ fn is_within(low: i32, high: i32, v: i32) -> bool
     (low..=high).contains(&v)
 }
 
-// One bid: 4, 5, 6. Its numbers come as the table and `judge_bid` have them: a struct would be made here to be taken apart. Of the counts only m is
+// One bid: 4, 5, 6. Its numbers come as the table and `judge_bid` have them: a struct would be made for this call alone. Of the counts only m is
 // asked, with its bound: a bid judged alone has no n.
 fn judge_numbers(m: usize, pool: i32, price: i32, quantity: i32, place: usize) -> Verdict
     requires { m ≤ pool_limit }
@@ -103,7 +103,7 @@ fn judge_bids(counts: Counts, table: &[i32]) -> Verdict
     Ok(())
 }
 
-// One entry of the capacity table: 8 on the diagonal, 7 off it. The flag is the definition's own.
+// One entry of the capacity table: 8 on the diagonal, 7 off it. The flag is the definition's own: two functions would each state half of `capacity_fault`.
 fn judge_capacity(diagonal: bool, capacity: i32, place: usize) -> Verdict
     ensures { refusal_of result ≡ numbered (capacity_fault diagonal capacity) place }
 {
@@ -119,8 +119,8 @@ fn judge_capacity(diagonal: bool, capacity: i32, place: usize) -> Verdict
     Ok(())
 }
 
-// The capacities by rows: the first bad one ends the search. Document 01 names this form, two loops left by a label, so `?` does not leave them. The
-// table is one slice, of which m, no constant, says how long a row is.
+// The capacities by rows: the first bad one ends the search. Document 01 names this form, two loops left by a label, so `?` does not leave them. An
+// entry's place is its index in the one slice, so the table is not cut into rows.
 fn judge_capacities(counts: Counts, capacities: &[i32]) -> Verdict
     requires { length capacities.now ≡ counts.m * counts.m }
     ensures { refusal_of result ≡ capacities_refusal (book 0 counts.m [] capacities.now) }

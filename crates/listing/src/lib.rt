@@ -22,7 +22,8 @@ impl Listing {
 
 // ---- The calls
 // Each gives the size of the text that it wrote, which is 0 where it wrote none: no text is empty, and an `Option` would say the same twice.
-// Each tests the room and opens its page itself: of a call with an `Option` of a page it is not proved that the slice stays as it is at `None`.
+// Each tests the room and opens its page itself: a call that gives an `Option` of a page was tried, and that the slice stays as it is at `None` was not
+// proved.
 
 // Writes the listing of n bids' and m pools' opened results at the start of the slice and gives its size; or writes nothing and gives 0.
 pub fn write_listing(n: usize, m: usize, results: &[i32], welfare: i64, out: &mut [u8]) -> usize

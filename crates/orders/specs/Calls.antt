@@ -1,6 +1,6 @@
 -- What is known of a call of the writer that is not refused (`write_within`), and what each call leaves.
 use Rattle.std.specs.Prelude.{ℕ, ◌≤◌, ◌≡◌, cond, ltb, List, length}
-use Rattle.std.proofs.Common.{ap, ◌∙◌, false, ltb-false}
+use Rattle.std.proofs.Common.{refl, ap, ◌∙◌, false, true≢false, ltb-false}
 use Rattle.definitions.specs.declared.Reason.{Reason}
 use Rattle.definitions.specs.Answers.{Refusal, none, refuse, first, unless, is_none, stated}
 use Rattle.definitions.specs.Calls.{counts_refusal}
@@ -30,9 +30,17 @@ module _ (P : Plan) (n m at room : ℕ) where
       }
 
   -- the counts are refused
-  pub by_counts : (r : Reason) → stated r ≡ counts_refusal n m → stated r ≡ write_refusal P n m at room
+  pub counts_stated : (r : Reason) → stated r ≡ counts_refusal n m → stated r ≡ write_refusal P n m at room
   unfolding write_refusal ask_refusal
-  by_counts r e = first_to_refuse r (first_to_refuse r e (position_refusal (P n m) at)) (room_refusal room)
+  counts_stated r e = first_to_refuse r (first_to_refuse r e (position_refusal (P n m) at)) (room_refusal room)
+
+  pub by_counts : is_none (counts_refusal n m) ≡ false → write_refusal P n m at room ≡ counts_refusal n m
+  unfolding write_refusal ask_refusal
+  by_counts = go (counts_refusal n m)
+    where
+      go : (r : Refusal) → is_none r ≡ false → first (first r (position_refusal (P n m) at)) (room_refusal room) ≡ r
+      go none e = absurd (true≢false e)
+      go (refuse k x) e = refl
 
   -- or they passed, and the rest is judged by the total
   pub by_room : none ≡ counts_refusal n m → (r : Refusal) (total : ℕ) → total ≡ length (P n m) → r ≡ first (past_refusal total at) (room_refusal room)

@@ -79,7 +79,8 @@ impl Shape {
     }
 }
 
-// A place in a phase: an order of a block, which stands in a column of a part of a row.
+// A place in a phase: an order of a block, which stands in a column of a part of a row. How far each number may go says the phase, another one in each
+// function: so it is asked there (`InPhase`) and is no field.
 #[derive(Clone, Copy)]
 pub struct Spot {
     pub row: usize,

@@ -61,7 +61,8 @@ pub fn shape_of(counts: Counts, scratch: usize, k: usize) -> Shape
     }
 }
 
-// Demands, placements and highest offers each clear a cell before they gather in it: one line, which a function for the three would not spare.
+// Demands, placements and highest offers each clear a cell before they gather in it, and cuts and slacks each sum over the sets first: one line each,
+// which a function for them would not spare.
 
 // An order of the demand of a pool.
 fn demands(counts: Counts, s: Spot) -> NamedOrder

@@ -15,7 +15,8 @@ use judging::judge_counts;
 use plan::Family::{self, *};
 use plan::Place;
 
-// How many phases the plan has.
+// How many phases the plan has. A phase's number is bounded in each contract: a type for it would be made anew at each turn of a loop and after each
+// `settled`.
 pub const PHASES: usize = 26;
 
 // One beginning more than there are families: where the last ends.
@@ -70,7 +71,8 @@ fn number(family: Family) -> usize
     family as usize
 }
 
-// How many orders each phase has, for so many scratch cells: as for `shape_of` and for the tables' field, their number is known once the layout is.
+// How many orders each phase has, for so many scratch cells. `scratch` is a number with its value in the contract, here and at `shape_of`: it is known
+// once the layout is, before there are `Tables` to hold it.
 fn sizes_of(counts: Counts, scratch: usize) -> [usize; PHASES]
     requires { scratch ≡ scratch_count counts.n counts.m }
     ensures { IsSizes counts.n counts.m result }

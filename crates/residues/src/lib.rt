@@ -9,7 +9,7 @@ use definitions::Limits;
 
 // A number as a cell holds it: a negative one is raised by p. For all numbers of less than p in size that is a residue.
 // The least i32 stays below 0 even when raised and becomes 0; the greatest is p, which is no residue, and stays p.
-// No accepted book holds either.
+// No accepted book holds either, so an `Option` would ask each caller for a case that never comes.
 pub fn residue(v: i32) -> u32
     ensures { result ≡ arithmetic.residue v }
 {

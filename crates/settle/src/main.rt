@@ -23,7 +23,7 @@ use text::Reader;
 const PIECE: usize = 4_096;
 
 // One turn, by how many bytes a read put at the start of piece, all of it at most: 0 at the end of the input, none where it failed.
-// It leads on to the next turn's reader, or the text is over.
+// It leads on to the next turn's reader, or the text is over. The piece comes whole beside its count: a failed read and the end have no part of it.
 fn take_turn(
     reader: Reader,
     read: Option<usize>,

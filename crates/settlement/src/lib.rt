@@ -52,8 +52,8 @@ fn list_sheet(counts: Counts, welfare: i64, sheet: &[u32], out: &mut [u8]) -> us
     write_listing(counts.n, counts.m, results, welfare, out)
 }
 
-// Clears the book of the tables that a text gave. The numbers are cut in two, as they are stored one behind the other: first those of the bids,
-// then those of the capacities. The counts are judged here, though no text that is read has others: a caller of `settle` may give any.
+// Clears the book of the tables that a text gave. A text's numbers are stored by how many were read, so both tables' lie one behind the other and are
+// cut in two here. The counts are judged here, though no text that is read has others: a caller of `settle` may give any.
 fn clear_tables(
     tables: Tables,
     numbers: &[i32; Reader::NUMBERS],

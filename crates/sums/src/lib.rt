@@ -17,7 +17,7 @@ use definitions::Limits;
 mod pools;
 mod values;
 
-// The size of a number, also of the least one; for callers.
+// The size of a number, also of the least one.
 pub fn size(v: i64) -> usize
     ensures { result ≡ nat_abs v }
 {
@@ -57,7 +57,8 @@ pub fn pool_sums(m: usize, p: usize, bids: &[i32], amounts: &[i32], flows: &[i32
     fitting_sums(m, p, bids, amounts, flows)
 }
 
-// The welfare of accepted amounts by formula (1) of document 003.
+// The welfare of accepted amounts by formula (1) of document 003. Three functions promise this sum: `sum_values` where the amounts fit, this one for all,
+// `welfare_sent` of signed numbers.
 pub fn welfare(bids: &[i32], accepted: &[u32]) -> i64
     ensures { result ≡ summed_welfare bids.now accepted.now }
 {

@@ -50,7 +50,8 @@ fn amount_in(side: Side, number: i32, pool: i32, quantity: i32, amount: i32) -> 
     }
 }
 
-// The accepted purchases of pool p, from 0, or its accepted sales. Amounts go by the bid's index, as the definition has it: `zip` gives pairs without.
+// The accepted purchases of pool p, from 0, or its accepted sales. Amounts go by the bid's index, by which the sum is
+// defined; `zip` gives pairs and no index.
 pub fn side_in(side: Side, p: usize, table: &[i32], amounts: &[i32]) -> usize
     requires p_lt_pool_limit { p < pool_limit }
     requires table_len { length table.now ≡ bid_numbers * length amounts.now }

@@ -31,7 +31,7 @@ pub fn word(input: &[u8], k: usize) -> u32
 }
 
 // A word as an unsigned number, with `word`'s 0 behind the last.
-// `word`, `number` and `signed` read one word in three types: one function of them all would name its type at each call.
+// `word`, `number` and `signed` promise one word in three types: `number` reads a count or a length, which is no entry, and `FromWord` has no usize.
 pub fn number(input: &[u8], k: usize) -> usize
     ensures { result ≡ word_at input.now k }
 {

@@ -6,7 +6,7 @@ use Rattle.definitions.specs.Answers.{none, stated}
 use Rattle.definitions.specs.Plan.{nothing_written, write_refusal, write_counts, write_slice}
 use Rattle.laws.specs.Search.{turned_away}
 use Rattle.plan.specs.Plan.{plan}
-use Rattle.orders.specs.Calls.{by_counts, by_room, counts_accepted, slice_accepted, counts_refused, slice_refused}
+use Rattle.orders.specs.Calls.{counts_stated, by_room, counts_accepted, slice_accepted, counts_refused, slice_refused}
 use Rattle.orders.proofs.write_plan.Goals as goal
 use Rattle.orders.proofs.write_plan.Goals.{Start, After-length-total}
 
@@ -26,20 +26,20 @@ pub returns-in_err-tables-clause-refusal : goal.returns-in_err-tables-clause-ref
 returns-in_err-tables-clause-refusal c =
     let p = err_from_is_err_and c.from_residual.result c.from_residual.ensures.1 in
     let e = c.in_err-tables in
-    rw (p.1, p.2) (by_counts plan _ _ _ _ _ e.ensures.refusal)
+    rw (p.1, p.2) (counts_stated plan _ _ _ _ _ e.ensures.refusal)
 
 pub returns-in_err-tables-clause-counts : goal.returns-in_err-tables-clause-counts
 returns-in_err-tables-clause-counts c =
     let p = err_from_is_err_and c.from_residual.result c.from_residual.ensures.1 in
     let e = c.in_err-tables in
     let s = goal.at.returns-in_err-tables-clause-counts c in
-    rw p.1 (nothing s.Start e.field-0.0 (by_counts plan _ _ _ _ _ e.ensures.refusal)).0
+    rw p.1 (nothing s.Start e.field-0.0 (counts_stated plan _ _ _ _ _ e.ensures.refusal)).0
 
 pub returns-in_err-tables-clause-slice : goal.returns-in_err-tables-clause-slice
 returns-in_err-tables-clause-slice c =
     let e = c.in_err-tables in
     let s = goal.at.returns-in_err-tables-clause-slice c in
-    (nothing s.Start e.field-0.0 (by_counts plan _ _ _ _ _ e.ensures.refusal)).1
+    (nothing s.Start e.field-0.0 (counts_stated plan _ _ _ _ _ e.ensures.refusal)).1
 
 pub returns-in_err-judge_room-clause-refusal : goal.returns-in_err-judge_room-clause-refusal
 returns-in_err-judge_room-clause-refusal c =
