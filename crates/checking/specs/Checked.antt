@@ -1,6 +1,6 @@
 -- What the code tests of numbers that are not refused is what yes says (`answer_exact`).
-use Rattle.std.specs.Prelude.{◌≡◌, Bool, true, false, ◌&&◌, List, map, length, ℤ, nat_abs}
-use Rattle.std.proofs.Common.{sym, ap, ◌∙◌, true≢false, arith}
+use Rattle.std.specs.Prelude.{◌≡◌, Bool, true, ◌&&◌, List, map, length, ℤ, nat_abs}
+use Rattle.std.proofs.Common.{sym, ◌∙◌, arith}
 use Rattle.definitions.specs.Limits.{cell_count}
 use Rattle.definitions.specs.Arithmetic.{eq_z}
 use Rattle.definitions.specs.Book.{Book}
@@ -83,10 +83,3 @@ module _ (B : Book) (amounts flows : List ℤ) (passed : check_refusal B (length
 
   pub answer_exact : (answer : Bool) → answer ≡ found_optimal B amounts flows → Exactly answer (Passes B amounts flows)
   answer_exact answer e = record { said = λ s. optimal_passes (sym e ∙ s); meant = λ p. e ∙ passes_optimal p }
-
--- where something is refused the answer is no
-pub refused_no : (B : Book) (amounts flows : List ℤ) → is_none (check_refusal B (length amounts) (length flows)) ≡ false → Exactly false (Passes B amounts flows)
-refused_no B amounts flows r = record {
-  said = λ s. absurd (true≢false (sym s));
-  meant = λ p. absurd (true≢false (sym (ap is_none p.no_refusal) ∙ r));
-}

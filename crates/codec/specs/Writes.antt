@@ -1,12 +1,12 @@
 -- What a caller of write_order concludes: with room and without, and that no byte written means no room (none_written).
-use Rattle.std.specs.Prelude.{ℕ, ◌+◌, ◌<◌, ◌≤◌, ◌≡◌, true, false, List, length}
-use Rattle.std.proofs.Common.{sym, arith, leb-true, leb-false, le-leb}
+use Rattle.std.specs.Prelude.{ℕ, ◌+◌, ◌<◌, ◌≤◌, ◌≡◌, List, length}
+use Rattle.std.proofs.Common.{arith, le-leb}
 use Rattle.std.proofs.Math.Decide.{dec_lt}
 use Rattle.std.proofs.lemmas.Bool.{lt-leb}
 use Rattle.definitions.specs.declared.Order.{Order}
 use Rattle.definitions.specs.Bytes.{order_bytes}
 use Rattle.laws.specs.Write.{written}
-use Rattle.codec.specs.Written.{has_room, written_size, written_bytes}
+use Rattle.codec.specs.Written.{written_size, written_bytes}
 use Rattle.codec.specs.OrderBytes.{at_least_three}
 
 module _ (out : List ℕ) (at : ℕ) (order : Order) where
@@ -25,13 +25,6 @@ module _ (out : List ℕ) (at : ℕ) (order : Order) where
   pub bytes_without_room : length out < at + length (order_bytes order) → written_bytes out at order ≡ out
   unfolding written_bytes
   bytes_without_room h = simp (lt-leb _ _ h)
-
-  -- what the test of the room says
-  pub room_there : true ≡ has_room out at order → at + length (order_bytes order) ≤ length out
-  room_there e = leb-true _ _ (sym e)
-
-  pub no_room_there : false ≡ has_room out at order → length out < at + length (order_bytes order)
-  no_room_there e = leb-false _ _ (sym e)
 
   -- an order has three bytes at least, so that no byte written means no room
   pub none_written : written_size out at order ≡ 0 → length out < at + length (order_bytes order)

@@ -1,25 +1,22 @@
 -- When a call is not refused (`total_passes`, `bytes_pass`), what is then known of it, and what each call leaves.
-use Rattle.std.specs.Prelude.{ℕ, ◌≤◌, ◌≡◌, refl, false, List, eqb, length}
-use Rattle.std.proofs.Common.{ap, ◌∙◌, eqb-true, eq-eqb, le-ltb}
-use Rattle.definitions.specs.Answers.{Refusal, none, refuse, first, unless, is_none}
+use Rattle.std.specs.Prelude.{ℕ, ◌≤◌, ◌≡◌, refl, List, eqb, length}
+use Rattle.std.proofs.Common.{ap, ◌∙◌, eq-eqb, le-ltb}
+use Rattle.definitions.specs.Answers.{Refusal, none, refuse, first, unless}
 use Rattle.definitions.specs.Calls.{counts_refusal, length_refusal}
 use Rattle.definitions.specs.Plan.{Plan, position_refusal, room_refusal, ask_refusal, write_refusal, over, bytes_written, written_counts, lowest_first, count_bytes, total_refusal, total_slice, bytes_refusal, bytes_slice, counts_slice, longest_order, number_size, counts_size}
-use Rattle.laws.specs.Refusal.{not_refused, test_passed, first_left, first_right, unless_refused}
+use Rattle.laws.specs.Refusal.{not_refused, first_left}
 
 -- ---- refusals in turn
 
-pub first_grouped : (a b c : Refusal) → first (first a b) c ≡ first a (first b c)
+first_grouped : (a b c : Refusal) → first (first a b) c ≡ first a (first b c)
 first_grouped none b c = refl
 first_grouped (refuse k x) b c = refl
 
 -- b, which refuses nothing, stands after a or nowhere
-pub passed_between : (a b c d : Refusal) → first a b ≡ none → first (first a c) d ≡ first a (first b (first c d))
+passed_between : (a b c d : Refusal) → first a b ≡ none → first (first a c) d ≡ first a (first b (first c d))
 passed_between none none c d e = refl
 passed_between none (refuse k x) c d e = not_refused e
 passed_between (refuse k x) b c d e = refl
-
-stated_length : (a b : ℕ) → length_refusal (eqb a b) ≡ none → a ≡ b
-stated_length a b e = eqb-true a b (test_passed (eqb a b) 3 0 e)
 
 -- ---- the total
 
@@ -32,17 +29,9 @@ module _ (P : Plan) (n m : ℕ) (out : List ℕ) where
   unfolding total_refusal
   total_counts e = first_left (counts_refusal n m) (length_refusal (eqb (length out) number_size)) e
 
-  pub total_length : total_refusal n m (length out) ≡ none → length out ≡ number_size
-  unfolding total_refusal
-  total_length e = stated_length (length out) number_size (first_right (counts_refusal n m) (length_refusal (eqb (length out) number_size)) e)
-
   pub total_given : total_refusal n m (length out) ≡ none → total_slice P n m out ≡ lowest_first number_size (length (P n m))
   unfolding total_slice
   total_given e = ap (λ (r : Refusal). unless r (lowest_first number_size (length (P n m))) out) e
-
-  pub total_kept : is_none (total_refusal n m (length out)) ≡ false → total_slice P n m out ≡ out
-  unfolding total_slice
-  total_kept e = unless_refused (total_refusal n m (length out)) (lowest_first number_size (length (P n m))) out e
 
 -- ---- the bytes
 
@@ -51,12 +40,6 @@ unfolding bytes_refusal
 bytes_pass P n m at room out counts stated within roomy = rw (counts, eq-eqb out counts_size stated, le-ltb (length (P n m)) at within, le-ltb room longest_order roomy) refl
 
 module _ (P : Plan) (n m at : ℕ) (bytes out : List ℕ) where
-  pub bytes_length : bytes_refusal P n m at (length bytes) (length out) ≡ none → length out ≡ counts_size
-  unfolding bytes_refusal
-  bytes_length e =
-      stated_length (length out) counts_size
-      (first_left (length_refusal (eqb (length out) counts_size)) (first (position_refusal (P n m) at) (room_refusal (length bytes))) (first_right (counts_refusal n m) _ e))
-
   pub bytes_writing : bytes_refusal P n m at (length bytes) (length out) ≡ none → write_refusal P n m at (length bytes) ≡ none
   unfolding bytes_refusal write_refusal ask_refusal
   bytes_writing e =
@@ -72,14 +55,6 @@ module _ (P : Plan) (n m at : ℕ) (bytes out : List ℕ) where
   unfolding bytes_slice
   bytes_given e = ap (λ (r : Refusal). unless r (over (bytes_written P n m at (length bytes)) bytes) bytes) e
 
-  pub bytes_kept : is_none (bytes_refusal P n m at (length bytes) (length out)) ≡ false → bytes_slice P n m at bytes (length out) ≡ bytes
-  unfolding bytes_slice
-  bytes_kept e = unless_refused (bytes_refusal P n m at (length bytes) (length out)) (over (bytes_written P n m at (length bytes)) bytes) bytes e
-
   pub counts_given : bytes_refusal P n m at (length bytes) (length out) ≡ none → counts_slice P n m at (length bytes) out ≡ count_bytes (written_counts P n m at (length bytes))
   unfolding counts_slice
   counts_given e = ap (λ (r : Refusal). unless r (count_bytes (written_counts P n m at (length bytes))) out) e
-
-  pub counts_kept : is_none (bytes_refusal P n m at (length bytes) (length out)) ≡ false → counts_slice P n m at (length bytes) out ≡ out
-  unfolding counts_slice
-  counts_kept e = unless_refused (bytes_refusal P n m at (length bytes) (length out)) (count_bytes (written_counts P n m at (length bytes))) out e

@@ -1,8 +1,8 @@
 // Who is turned away: judges counts, a number of results, a bid alone, a whole book, and the cells of a sheet.
 #![tactic(auto)]
 
-ghost use Rattle.std.specs.Prelude.{◌≡◌, ◌&&◌, [], ◌*◌, ◌≤◌, eqb, length, IfOk};
-ghost use Rattle.definitions.specs.Limits.{pool_limit, cell_count, bid_numbers};
+ghost use Rattle.std.specs.Prelude.{◌≡◌, [], ◌*◌, ◌≤◌, length, IfOk};
+ghost use Rattle.definitions.specs.Limits.{pool_limit, bid_numbers};
 ghost use Rattle.definitions.specs.Arithmetic.{within};
 ghost use Rattle.definitions.specs.Answers.{refusal_of, numbered};
 ghost use Rattle.definitions.specs.Book.{book, book_of};

@@ -75,12 +75,9 @@ raised k (negsuc a) h = go (lt? k (suc a))
     go (more l) = (refl, omega arith)
 
 -- 0 ≤ z ≤ k
-not_negative : (k : ℕ) (z : ℤ) → within (pos 0) (pos k) z ≡ true → (z ≡ pos (nat_abs z)) × (nat_abs z ≤ k)
-not_negative k (pos a) e = (refl, leb-true a k (second_so (le_z (pos 0) (pos a)) _ e))
-not_negative k (negsuc a) e = absurd (true≢false (sym e))
-
 pub from_zero : (k : ℕ) (z : ℤ) → within (pos 0) (pos k) z ≡ true → (z ≡ pos (nat_abs z)) × (nat_abs z ≤ k)
-from_zero = not_negative
+from_zero k (pos a) e = (refl, leb-true a k (second_so (le_z (pos 0) (pos a)) _ e))
+from_zero k (negsuc a) e = absurd (true≢false (sym e))
 
 pub within_from_zero : (k v : ℕ) (z : ℤ) → z ≡ pos v → v ≤ k → within (pos 0) (pos k) z ≡ true
 within_from_zero k v z e h = rw (e, le-leb 0 v (omega arith)) (le-leb v k h)

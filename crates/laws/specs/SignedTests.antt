@@ -1,12 +1,12 @@
 -- What a test of two signed numbers tells, as the prover hands it over: each number that is no literal is read back from its bits, `to_z w (of_z w x)`.
 -- Each law says the same of the numbers themselves.
-use Rattle.std.specs.Prelude.{◌≡◌, refl, Bool, true, false, ℤ, pos, negsuc, nat_abs, ◌<◌, ◌^◌, T, ltb, eqb}
-use Rattle.std.proofs.Common.{sym, ap, ◌∙◌, subst, true≢false, eqb-true, eq-eqb, to_z-of_z, w32, w64, SFits, Fits, to_z, of_z}
-use Rattle.std.specs.Int.Signed.{lt_z, non_neg, mag}
+use Rattle.std.specs.Prelude.{◌≡◌, refl, Bool, true, false, ℤ, pos, negsuc, ◌<◌, ◌^◌, eqb}
+use Rattle.std.proofs.Common.{sym, ap, ◌∙◌, subst, true≢false, eqb-true, eq-eqb, to_z-of_z, w32, w64, SFits, to_z, of_z}
+use Rattle.std.specs.Int.Signed.{lt_z, mag}
 use Rattle.definitions.specs.Arithmetic.{eq_z}
 use Rattle.std.specs.Int.{Width}
-use mir.Val.{bits, hbits}
-use Rattle.std.proofs.Math.Facts.{Fits-nat_abs, sfits_widen}
+use mir.Val.{hbits}
+use Rattle.std.proofs.Math.Facts.{sfits_widen}
 use Rattle.laws.specs.Tests.{is_false, Eq?, same, diff, eq?}
 
 -- the test's left side, or its right side, is a variable
@@ -42,14 +42,6 @@ eq_bits {w = w} {x = x} {y = y} f g = go (eq? (of_z w x) (of_z w y))
     go : {t : Bool} → Eq? (of_z w x) (of_z w y) t → t ≡ eq_z x y
     go (same p) = sym (eq_yes f g p)
     go (diff p) = sym (eq_no w x y p)
-
--- ---- a cast to an unsigned type, after a test that the number is not negative
-pub not_negative : (z : ℤ) → lt_z z (pos 0) ≡ false → T (non_neg z)
-not_negative (pos n) e = tt
-not_negative (negsuc n) e = absurd (true≢false e)
-
-pub to_unsigned : (w w' : Width) (z : ℤ) → T (ltb (hbits w) (bits w')) → SFits w z → lt_z (to_z w (of_z w z)) (pos 0) ≡ false → T (non_neg (to_z w (of_z w z))) × Fits w' (nat_abs (to_z w (of_z w z)))
-to_unsigned w w' z t f e = subst (λ (x : ℤ). T (non_neg x) × Fits w' (nat_abs x)) (sym (to_z-of_z f)) (not_negative z (left (pos 0) f e), Fits-nat_abs t f)
 
 -- ---- what a read of an element gives is the bound of its size
 pub back : (w : Width) (z : ℤ) → mag z < 2 ^ hbits w → to_z w (of_z w z) ≡ z

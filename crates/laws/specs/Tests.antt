@@ -38,9 +38,6 @@ is_false false h = refl
 pub on_true : (t : Bool) (v : ℕ) → t ≡ true → on t v ≡ v
 on_true t v e = rw e refl
 
-pub on_false : (t : Bool) (v : ℕ) → t ≡ false → on t v ≡ 0
-on_false t v e = rw e refl
-
 pub on_le : (t : Bool) (v : ℕ) → on t v ≤ v
 on_le true v = omega arith
 on_le false v = omega arith

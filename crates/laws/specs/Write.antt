@@ -1,9 +1,9 @@
 -- A loop that writes a list into another, element by element (`paste` of lib.Seq says what it has written after n turns), stores behind stores,
 -- and a loop that writes a list over all of another.
-use Rattle.std.specs.Prelude.{ℕ, suc, ◌+◌, ◌<◌, ◌≤◌, ◌≡◌, refl, List, [], ◌∷◌, ◌++◌, length, get_or, take, drop, set}
+use Rattle.std.specs.Prelude.{ℕ, suc, ◌+◌, ◌<◌, ◌≤◌, ◌≡◌, List, [], ◌∷◌, ◌++◌, length, get_or, take, drop, set}
 use Rattle.std.proofs.Common.{sym, ap, ◌∙◌, append-nil, arith, zero-add, add-zero, suc-add, add-suc, add-one, length-set, drop_of_length-le, take_at}
 use Rattle.std.proofs.lemmas.List.Edits.{sets}
-use Rattle.std.proofs.Math.Seq.{paste, paste-zero, paste-suc, take-length, drop-append-add}
+use Rattle.std.proofs.Math.Seq.{paste, paste-suc, take-length, drop-append-add}
 
 module _ {A : Type 0} where
   -- d with its elements from index at on replaced by those of s
@@ -39,9 +39,6 @@ module _ {A : Type 0} where
     pub within : i ≤ length d₀
     pub as_long : length d ≡ length d₀
     pub is_pasted : d ≡ paste d₀ 0 s i
-
-  pub writing_begins : (d₀ s : List A) → WrittenSoFar d₀ s d₀ 0
-  writing_begins d₀ s = record { within = omega arith; as_long = refl; is_pasted = paste-zero d₀ 0 s }
 
   module _ {d₀ s d : List A} {i : ℕ} (same_length : length s ≡ length d₀) (so_far : WrittenSoFar d₀ s d i) where
     pub writing_turn : (z v : A) → i < length d → v ≡ get_or s i z → WrittenSoFar d₀ s (set d i v) (i + 1)

@@ -1,6 +1,6 @@
 -- Decimal digits: how many there are at most, and that std prints the same ones.
-use Rattle.std.specs.Prelude.{List, ◌^◌, ℕ, zero, suc, ◌+◌, ◌-◌, ◌/◌, ◌%◌, ◌≤◌, ◌<◌, ◌≡◌, refl, Bool, cond, [], ◌∷◌, ◌++◌, length, ℤ, pos, negsuc}
-use Rattle.std.proofs.Common.{sym, ap, arith, sub-one, length-append, lt-ltb, le-ltb}
+use Rattle.std.specs.Prelude.{List, ◌^◌, ℕ, zero, suc, ◌+◌, ◌-◌, ◌/◌, ◌%◌, ◌≤◌, ◌<◌, ◌≡◌, Bool, cond, [], ◌∷◌, ◌++◌, length, ℤ, pos, negsuc}
+use Rattle.std.proofs.Common.{sym, ap, arith, length-append, lt-ltb, le-ltb}
 use Rattle.std.specs.Int.Signed.{mag}
 use Rattle.std.specs.Fmt as std
 use Rattle.std.proofs.lemmas.Fmt.{AppendsLastDigit, decimal_from_appends, length-decimal-le}
@@ -11,21 +11,6 @@ use Rattle.laws.specs.Tests.{Lt?, less, more, lt?}
 pub last_digit : AppendsLastDigit decimal_to
 unfolding decimal_to
 last_digit = record { one = λ k v l. simp (lt-ltb v 10 l); more = λ k v l. simp (le-ltb v 10 l) }
-
--- ---- the cases of the digits
-
-pub no_digits : (k v : ℕ) → k ≡ 0 → decimal_to k v ≡ []
-unfolding decimal_to
-no_digits zero v e = refl
-no_digits (suc k) v e = absurd (omega arith)
-
-pub one_digit : (k v : ℕ) → (k ≡ 0 → ⊥) → v < 10 → decimal_to k v ≡ (48 + v) ∷ []
-one_digit zero v e h = absurd (e refl)
-one_digit (suc k) v e h = last_digit.one k v h
-
-pub more_digits : (k v : ℕ) → (k ≡ 0 → ⊥) → 10 ≤ v → decimal_to k v ≡ decimal_to (k - 1) (v / 10) ++ ((48 + v % 10) ∷ [])
-more_digits zero v e h = absurd (e refl)
-more_digits (suc k) v e h = rw sub-one (last_digit.more k v h)
 
 -- ---- how many there are
 

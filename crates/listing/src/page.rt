@@ -1,5 +1,5 @@
 // A page that a text is written on, piece by piece.
-ghost use Rattle.std.specs.Prelude.{◌≡◌, ◌++◌, ◌≤◌, length};
+ghost use Rattle.std.specs.Prelude.{◌++◌, ◌≤◌, length};
 ghost use Rattle.definitions.specs.Settle.{decimal};
 
 use itoa::{Buffer, Integer};

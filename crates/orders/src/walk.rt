@@ -1,5 +1,5 @@
 // The walk through the tables: how many orders the plan has, and the order at a position.
-ghost use Rattle.std.specs.Prelude.{◌≡◌, ◌≤◌, ◌<◌, length, get_or};
+ghost use Rattle.std.specs.Prelude.{◌≡◌, ◌<◌, length, get_or};
 ghost use Rattle.definitions.specs.declared.Order.TheVariants.{Constant};
 ghost use Rattle.plan.specs.Phased.{row_of, row_size};
 ghost use Rattle.plan.specs.Table.{phase_count};

@@ -3,7 +3,7 @@
 // is that of the text that some reads give, and `list_text` which bytes are to be printed for an answer.
 #![tactic(auto)]
 
-ghost use Rattle.std.specs.Prelude.{◌≡◌, ◌≤◌, length, IfSome};
+ghost use Rattle.std.specs.Prelude.{◌≡◌};
 ghost use Rattle.definitions.specs.Settle.{input_text};
 ghost use Rattle.plan.specs.Plan.{plan};
 ghost use Rattle.stages.specs.Counting.{input_for};

@@ -14,7 +14,7 @@ use Rattle.laws.specs.Refusal.{first_refused, unless_refused}
 use Rattle.laws.specs.Sizes.{accepted_sizes}
 use Rattle.listing.specs.Text.{text_room, text_size, text_slice, refused_size, refused_slice}
 use Rattle.plan.specs.Plan.{plan}
-use Rattle.settlement.specs.Opens.{plan_opens}
+use Rattle.clearing.specs.Opens.{plan_opens}
 use Rattle.settlement.specs.Settled.{settled_text, settled_size, settled_slice, settled_sheet}
 
 -- ---- One text, written as it is defined

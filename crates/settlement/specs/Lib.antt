@@ -1,5 +1,4 @@
 -- What settle prints for a text that was read, and for every text.
-pub mod Opens
 pub mod Settled
 pub mod WholeText
 pub mod Printed

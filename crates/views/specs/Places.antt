@@ -48,9 +48,6 @@ module _ (table : List ℕ) (holder : ℕ) (results : List ℤ) (k : ℕ) where
   pub view_shows : shown table holder k ≡ true → result_at results k ≡ result_at (view_of table holder results) k
   view_shows e = sym (by_test e)
 
-  pub view_hides : shown table holder k ≡ false → pos 0 ≡ result_at (view_of table holder results) k
-  view_hides e = sym (by_test e)
-
 -- ---- a table gone through entry by entry: at entry i the holder's own amount stays, another's becomes 0
 
 module _ (holder : ℕ) where

@@ -6,7 +6,7 @@ use Rattle.definitions.specs.Plan.{over}
 use Rattle.codec.proofs.Places.{groups_none, groups_last, groups_more}
 use Rattle.codec.proofs.Stores.{room_behind, both}
 use Rattle.codec.proofs.+put_groups.Goals as goal
-use Rattle.codec.proofs.+put_groups.Goals.{Then-v-lt128, Else-v-lt128}
+use Rattle.codec.proofs.+put_groups.Goals.{Else-v-lt128}
 
 pub returns-then-g-eq0-clause-size : goal.returns-then-g-eq0-clause-size
 returns-then-g-eq0-clause-size t c = rw (groups_none c.args.g c.args.v c.if-g-eq0.true) refl
