@@ -1,2 +1,3 @@
--- Laws that the proofs cite.
+-- Laws that the proofs cite, and computed facts.
 pub mod Summing
+pub mod SumFacts

@@ -31,14 +31,14 @@ pub record TablesFit (m bids amounts flows : ℕ) : Type 0 where
 pub summable_fits : (m p bids amounts flows : ℕ) → summable m p bids amounts flows ≡ true → TablesFit m bids amounts flows × (p < m)
 unfolding summable
 summable_fits m p bids amounts flows e =
-    let by_pools_lem = second_so (leb amounts bid_limit) _ e in
-    let by_pool = second_so (leb m pool_limit) _ by_pools_lem in
-    let by-tables = second_so (ltb p m) _ by_pool in (
+    let by_pools = second_so (leb amounts bid_limit) _ e in
+    let by_pool = second_so (leb m pool_limit) _ by_pools in
+    let by_tables = second_so (ltb p m) _ by_pool in (
       record {
         few_bids = leb-true _ _ (first_so (leb amounts bid_limit) _ e);
-        few_pools = leb-true _ _ (first_so (leb m pool_limit) _ by_pools_lem);
-        bid_table = eqb-true _ _ (first_so (eqb bids (bid_numbers * amounts)) _ by-tables);
-        lines = eqb-true _ _ (second_so (eqb bids (bid_numbers * amounts)) _ by-tables);
+        few_pools = leb-true _ _ (first_so (leb m pool_limit) _ by_pools);
+        bid_table = eqb-true _ _ (first_so (eqb bids (bid_numbers * amounts)) _ by_tables);
+        lines = eqb-true _ _ (second_so (eqb bids (bid_numbers * amounts)) _ by_tables);
       },
       ltb-true _ _ (first_so (ltb p m) _ by_pool),
     )

@@ -1,6 +1,6 @@
 -- Accepted amounts whose welfare can be summed in 64 bits, whatever the prices, and that welfare (`summed_welfare`): of a book within its limits it is
 -- formula (1), from amounts on a sheet (`summed_welfare_is`) and from amounts sent (`sent_welfare_is`).
-use Rattle.std.specs.Prelude.{ℕ, ◌*◌, ◌≤◌, ◌<◌, ◌≡◌, refl, Bool, true, cond, ◌&&◌, List, map, eqb, leb, length, get_or, ℤ, pos, nat_abs, Decides, EachIndex}
+use Rattle.std.specs.Prelude.{ℕ, ◌*◌, ◌^◌, ◌≤◌, ◌<◌, ◌≡◌, refl, Bool, true, cond, ◌&&◌, List, map, eqb, leb, length, get_or, ℤ, pos, nat_abs, Decides, EachIndex}
 use Rattle.std.proofs.Common.{sym, ap, ◌∙◌, arith, eq-eqb, eqb-true, le-leb, leb-true}
 use Rattle.std.proofs.lemmas.List.{length-map}
 use Rattle.std.proofs.Math.ListN.{get_or-map}
@@ -14,7 +14,7 @@ use Rattle.laws.specs.All.{all_to_at, all_to_made}
 use Rattle.laws.specs.Sum.{sum_z_ext}
 use Rattle.std.specs.Cmp.{first_so, second_so}
 use Rattle.sums.specs.BidsOnly.{bids_only, welfare_of}
-use Rattle.sums.specs.Welfare.{signed_value, welfare_by_bid}
+use Rattle.sums.specs.Welfare.{signed_value, bid_value, welfare_by_bid}
 
 -- no amount is above the limit on a bid's size
 unfoldable pub amounts_small : List ℕ → Bool
@@ -33,6 +33,14 @@ amounts_fit bids accepted = leb (length accepted) bid_limit && (eqb (length bids
 -- their welfare, else 0
 unfoldable pub summed_welfare : (bids : List ℤ) (accepted : List ℕ) → ℤ
 summed_welfare bids accepted = cond (amounts_fit bids accepted) (welfare (bids_only (length accepted) 0 bids) (λ i. get_or accepted i 0)) (pos 0)
+
+-- what bid i adds to it
+abbrev pub value_added : (bids : List ℤ) (accepted : List ℕ) → ℕ → ℤ
+value_added bids accepted = bid_value (bids_only (length accepted) 0 bids) (λ i. get_or accepted i 0)
+
+-- no bid adds more: a price is a 32-bit number
+abbrev pub value_limit : ℕ
+value_limit = 2 ^ 31 * quantity_limit
 
 -- the counts and amounts of a book that fit: its welfare by formula (1)
 module _ (B : Book) (accepted : List ℕ) (count : length accepted ≡ B.n) (few : B.n ≤ bid_limit) (table : length B.bids ≡ bid_numbers * B.n)

@@ -1,4 +1,4 @@
-// The size of a number, and sums over bids and lines: what changes hands in a pool, and the welfare of accepted amounts.
+// Sums over bids and lines: what changes hands in a pool, and the welfare of accepted amounts.
 // Other crates sum what they have judged. Where counts or lengths do not fit, every sum here is 0; welfare also where an amount is above the limit on
 // a bid's size. So each sum is a number for every input, and a caller that has judged its tables meets no second refusal.
 // A sum takes the slices that it reads, and no book: its callers have parts of books, such as the amounts of a sheet without any flows.
@@ -16,13 +16,6 @@ use definitions::Limits;
 
 mod pools;
 mod values;
-
-// The size of a number, also of the least one.
-pub fn size(v: i64) -> usize
-    ensures { result ≡ nat_abs v }
-{
-    v.unsigned_abs() as usize
-}
 
 // What changes hands in a pool: accepted sales and purchases, inflow and outflow.
 #[derive(Clone, Copy, Default)]

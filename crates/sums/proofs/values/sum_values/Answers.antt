@@ -1,33 +1,26 @@
 -- `sum_values` meets its contract: each turn adds one bid's signed value, which is bounded by its amount's limit and by the 32 bits of its price.
-use Rattle.std.proofs.Common.{ℕ, ◌+◌, ◌*◌, ◌^◌, ◌≤◌, ◌≡◌, refl, sym, ap, ap₂, ◌∙◌, subst, arith, List, ℤ, pos, nat_abs, ◌+ℤ◌, length, get_or, w32, w64, SFits, to_z, of_z, to_z-of_z}
+use Rattle.std.proofs.Common.{ℕ, ◌+◌, ◌*◌, ◌^◌, ◌≤◌, ◌≡◌, refl, sym, ap, ap₂, ◌∙◌, subst, arith, ℤ, pos, nat_abs, ◌+ℤ◌, length, get_or, w32, w64, SFits, to_z, of_z, to_z-of_z}
 use borrow.Author.Rules.{sfits_of}
-use Rattle.definitions.specs.Limits.{quantity_limit, bid_numbers, price_place, quantity_place}
+use Rattle.definitions.specs.Limits.{bid_numbers, price_place, quantity_place}
 use Rattle.definitions.specs.Arithmetic.{sum_z}
 use Rattle.laws.specs.SignedTests.{back}
 use Rattle.laws.specs.BidTable.{number, number_at, price_read, quantity_read}
 use Rattle.laws.specs.IntegerSize.{fits_size, size_fits, size_add}
 use Rattle.sums.specs.BidsOnly.{bids_only}
 use Rattle.sums.specs.IntegerSum.{sum_z_none, sum_z_next}
-use Rattle.sums.specs.Welfare.{signed_value, bid_value, welfare_by_bid, value_size}
-use Rattle.sums.specs.SummedWelfare.{summed_welfare_is}
+use Rattle.sums.specs.Welfare.{signed_value, welfare_by_bid, value_size}
+use Rattle.sums.specs.SummedWelfare.{summed_welfare_is, value_added, value_limit}
 use Rattle.sums.proofs.values.sum_values.Goals as goal
 use Rattle.sums.proofs.values.sum_values.Goals.{After-signed_value-value}
 
--- what bid i adds
-abbrev added : List ℤ → List ℕ → ℕ → ℤ
-added table accepted = bid_value (bids_only (length accepted) 0 table) (λ i. get_or accepted i 0)
-
-abbrev bound : ℕ
-bound = 2 ^ 31 * quantity_limit
-
 pub loop-i-init : goal.loop-i-init
 loop-i-init c =
-    let none = sum_z_none (added c.args.table.now c.args.accepted.now) in
+    let none = sum_z_none (value_added c.args.table.now c.args.accepted.now) in
     record { sum = sym none; small = omega (arith, ap nat_abs none) }
 
 -- the sum of one bid more
 abbrev sum_after : After-signed_value-value → ℤ
-sum_after c = sum_z (c.loop-i.i + 1) (added c.args.table.now c.args.accepted.now)
+sum_after c = sum_z (c.loop-i.i + 1) (value_added c.args.table.now c.args.accepted.now)
 
 onward : (c : After-signed_value-value) → to_z w64 c.loop-i.total-bits +ℤ to_z w64 (of_z w64 c.signed_value-value.result) ≡ sum_after c
 onward c =
@@ -41,15 +34,15 @@ onward c =
     ∙ ap₂ (λ (p : ℤ) (q : ℤ). signed_value p q (get_or accepted l.i 0))
     (price_read table front.front front.front_len l.i c.loop-i-test.true c.price-1.given)
     (quantity_read table front.front front.front_len l.i c.loop-i-test.true c.quantity-1.given))
-    ∙ sym (sum_z_next l.i (added table accepted))
+    ∙ sym (sum_z_next l.i (value_added table accepted))
 
 -- its size
-onward_size : (c : After-signed_value-value) → nat_abs (sum_after c) ≤ (c.loop-i.i + 1) * bound
+onward_size : (c : After-signed_value-value) → nat_abs (sum_after c) ≤ (c.loop-i.i + 1) * value_limit
 onward_size c =
     let l = c.loop-i in
     let table = c.args.table.now in
     let front = c.as_chunks.ensures in
-    let f = added table c.args.accepted.now in
+    let f = value_added table c.args.accepted.now in
     let price : ℤ = get_or table (bid_numbers * l.i + price_place) (pos 0) in
     let quantity : ℤ = get_or table (bid_numbers * l.i + quantity_place) (pos 0) in
     let price_small : nat_abs price ≤ 2 ^ 31 =
@@ -79,5 +72,5 @@ returns c =
     let B = bids_only (length accepted) 0 table in
     let e : c.loop-i.i ≡ length accepted = omega arith in
     c.loop-i.invariant.sum
-    ∙ ap (λ (k : ℕ). sum_z k (added table accepted)) e
+    ∙ ap (λ (k : ℕ). sum_z k (value_added table accepted)) e
     ∙ sym (summed_welfare_is B accepted refl c.requires.few c.requires.table c.requires.small ∙ welfare_by_bid B (λ i. get_or accepted i 0))

@@ -1,0 +1,57 @@
+-- The sums on small books: which tables fit, what changes hands in each pool of example 2 of document 01, and the welfare of example 4.
+use Rattle.std.proofs.Common.{ℕ, ◌≡◌, refl, true, false, List, [], ◌∷◌, ℤ, pos, neg_ℤ}
+use Rattle.definitions.specs.Arithmetic.{sum_to, sum_z, all_to}
+use Rattle.definitions.specs.Clearing.{sold, bought, inflow, outflow, welfare}
+use Rattle.definitions.specs.Examples.{book_two, book_four}
+use Rattle.sums.specs.Pools.{summable, PoolSummed}
+use Rattle.sums.specs.SummedWelfare.{amounts_small, amounts_fit, summed_welfare}
+
+-- ---- tables that fit
+
+-- two bids and two pools, and the most of both; a pool too far, each of the two lengths one off, a bid too many, a pool too many
+fitting :
+    summable 2 0 6 2 4
+    ∷ summable 2 1 6 2 4
+    ∷ summable 4 3 192 64 16
+    ∷ summable 2 2 6 2 4
+    ∷ summable 2 0 5 2 4
+    ∷ summable 2 0 6 2 5
+    ∷ summable 2 0 195 65 4
+    ∷ summable 5 0 6 2 25
+    ∷ []
+    ≡ true ∷ true ∷ true ∷ false ∷ false ∷ false ∷ false ∷ false ∷ []
+unfolding summable
+fitting = refl
+
+-- ---- what changes hands: 3 are sold in the first pool, brought over, and bought in the second
+
+-- by any four numbers that are given for a pool
+abbrev given : (p : ℕ) (flows : List ℤ) (sales purchases entering leaving : ℕ) → Type 0
+given p flows = PoolSummed 2 p book_two.bids (pos 3 ∷ pos 3 ∷ []) flows
+
+first_pool : (s b i o : ℕ) → given 0 (pos 0 ∷ pos 3 ∷ pos 0 ∷ pos 0 ∷ []) s b i o → s ∷ b ∷ i ∷ o ∷ [] ≡ 3 ∷ 0 ∷ 0 ∷ 3 ∷ []
+unfolding book_two summable sold bought inflow outflow sum_to
+first_pool s b i o g = cc (g.sold_is, g.bought_is, g.inflow_is, g.outflow_is)
+
+second_pool : (s b i o : ℕ) → given 1 (pos 0 ∷ pos 3 ∷ pos 0 ∷ pos 0 ∷ []) s b i o → s ∷ b ∷ i ∷ o ∷ [] ≡ 0 ∷ 3 ∷ 3 ∷ 0 ∷ []
+unfolding book_two summable sold bought inflow outflow sum_to
+second_pool s b i o g = cc (g.sold_is, g.bought_is, g.inflow_is, g.outflow_is)
+
+-- with a flow missing the tables do not fit
+no_sums : (s b i o : ℕ) → given 0 (pos 0 ∷ pos 3 ∷ pos 0 ∷ []) s b i o → s ∷ b ∷ i ∷ o ∷ [] ≡ 0 ∷ 0 ∷ 0 ∷ 0 ∷ []
+unfolding book_two summable
+no_sums s b i o g = cc (g.sold_is, g.bought_is, g.inflow_is, g.outflow_is)
+
+-- ---- welfare: 5 sold at 10, and 4 and 1 bought at 30
+
+-- the amounts; the greatest amount and one more; a bid missing, an amount missing
+weighed :
+    summed_welfare book_four.bids (5 ∷ 4 ∷ 1 ∷ [])
+    ∷ summed_welfare book_four.bids (65535 ∷ 0 ∷ 0 ∷ [])
+    ∷ summed_welfare book_four.bids (65536 ∷ 0 ∷ 0 ∷ [])
+    ∷ summed_welfare book_two.bids (5 ∷ 4 ∷ 1 ∷ [])
+    ∷ summed_welfare book_four.bids (5 ∷ 4 ∷ [])
+    ∷ []
+    ≡ pos 100 ∷ neg_ℤ (pos 655350) ∷ pos 0 ∷ pos 0 ∷ pos 0 ∷ []
+unfolding book_two book_four summed_welfare amounts_fit amounts_small all_to welfare sum_z
+weighed = refl
