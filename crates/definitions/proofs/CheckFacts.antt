@@ -6,7 +6,7 @@ use Rattle.definitions.specs.Book.{Book, book}
 use Rattle.definitions.specs.Clearing.{Clearing, Feasible, sold, bought, inflow, outflow, welfare}
 use Rattle.definitions.specs.Answers.{none, refuse, is_none}
 use Rattle.definitions.specs.Calls.{amounts_of, flows_of, seal_refusal, bids_refusal, capacities_refusal, row_refusal, first_from}
-use Rattle.definitions.specs.Checks.{feasible_numbers, amounts_within, flows_within, balanced, balanced_at, sent_refusal, check_refusal, Optimal, Passes, Exactly}
+use Rattle.definitions.specs.Checks.{feasible_numbers, amounts_within, flows_within, balanced, balanced_at, sent_refusal, sent_feasible, check_refusal, Optimal, Passes, Exactly}
 use Rattle.definitions.specs.Examples.{book_one, book_two, book_seven}
 
 -- the flows of two pools that ship from the first to the second, and back
@@ -76,6 +76,20 @@ lengths :
 unfolding sent_refusal
 lengths = refl
 
+-- the test of numbers of any length: right numbers; each of the four lengths one off; too many bids; out of balance
+tested :
+    sent_feasible book_two (pos 3 ∷ pos 3 ∷ []) (shipped (pos 3) (pos 0))
+    ∷ sent_feasible (book 1 1 (pos 1 ∷ pos 5 ∷ []) (pos 0 ∷ [])) (pos 0 ∷ []) (pos 0 ∷ [])
+    ∷ sent_feasible (book 1 1 (pos 1 ∷ pos 5 ∷ pos 7 ∷ []) []) (pos 0 ∷ []) (pos 0 ∷ [])
+    ∷ sent_feasible (one (pos 1) (pos 5) (pos 7) (pos 0)) [] (pos 0 ∷ [])
+    ∷ sent_feasible (one (pos 1) (pos 5) (pos 7) (pos 0)) (pos 0 ∷ []) (pos 0 ∷ pos 0 ∷ [])
+    ∷ sent_feasible (book 0 5 [] []) [] []
+    ∷ sent_feasible book_two (pos 2 ∷ pos 3 ∷ []) (shipped (pos 3) (pos 0))
+    ∷ []
+    ≡ true ∷ false ∷ false ∷ false ∷ false ∷ false ∷ false ∷ []
+unfolding book_two sent_feasible sent_refusal feasible_numbers amounts_within flows_within balanced balanced_at all_to sold bought inflow outflow sum_to
+tested = refl
+
 -- the parts of two bids' and one pool's results
 parts : amounts_of 2 (pos 5 ∷ pos 6 ∷ pos 7 ∷ pos 8 ∷ pos 1 ∷ []) ∷ flows_of 2 1 (pos 5 ∷ pos 6 ∷ pos 7 ∷ pos 8 ∷ pos 1 ∷ []) ∷ []
     ≡ (pos 5 ∷ pos 6 ∷ []) ∷ (pos 7 ∷ []) ∷ []
@@ -131,14 +145,14 @@ trade_passes = record {
   optimal = trade_optimal;
 }
 
+is_positive : ℤ → Bool
+is_positive (pos n) = true
+is_positive (negsuc n) = false
+
 -- the same with every sign turned, one amount too many, nothing shipped, nothing traded: none of these passes
 below_zero : Passes pair (neg_ℤ (pos 1) ∷ neg_ℤ (pos 1) ∷ []) (shipped (neg_ℤ (pos 1)) (pos 0)) → ⊥
-unfolding pair
+unfolding pair is_positive
 below_zero p = true≢false (sym (ap is_positive (p.sent.amounts_are 0 (omega arith))))
-  where
-    is_positive : ℤ → Bool
-    is_positive (pos n) = true
-    is_positive (negsuc n) = false
 
 too_many : Passes pair (pos 1 ∷ pos 1 ∷ pos 0 ∷ []) (shipped (pos 1) (pos 0)) → ⊥
 unfolding pair check_refusal sent_refusal
@@ -175,6 +189,11 @@ both_ways = record {
     none_greater = λ d f. record { le = tt };
   };
 }
+
+-- and below 0 they do not, though they balance
+both_below_zero : Passes book_seven [] (shipped (neg_ℤ (pos 5)) (neg_ℤ (pos 5))) → ⊥
+unfolding book_seven is_positive
+both_below_zero p = true≢false (sym (ap is_positive (p.sent.flows_are 0 1 (omega arith) (omega arith))))
 
 -- ---- exactly: not no to what is, nor yes to what is not; no to what is not, and yes to what is
 
