@@ -21,7 +21,7 @@ use sums::welfare_sent;
 fn judge_check(book: &LentBook, sent: &Sent) -> Verdict
     ensures { refusal_of result ≡ check_refusal (book_of book.now) (length sent.now.amounts.now) (length sent.now.flows.now) }
 {
-    judge_sent(book, sent.amounts.len(), sent.flows.len())?;
+    judge_sent(book, sent)?;
     judge_book(book, Limits::CELLS)?;
     Ok(())
 }

@@ -16,12 +16,12 @@ use Rattle.sums.specs.BidsOnly.{bids_only, sold_of, bought_of, inflow_of, outflo
 use Rattle.sums.specs.Pools.{TablesFit}
 
 -- number k lies between 0 and the size of its limit, which stands at step × k + first
-abbrev pub within_size : (numbers limits : List ℤ) (step first : ℕ) → ℕ → Bool
-within_size numbers limits step first k = within (pos 0) (pos (nat_abs (get_or limits (step * k + first) (pos 0)))) (get_or numbers k (pos 0))
+abbrev pub within_size : (numbers limits : List ℤ) (first step : ℕ) → ℕ → Bool
+within_size numbers limits first step k = within (pos 0) (pos (nat_abs (get_or limits (step * k + first) (pos 0)))) (get_or numbers k (pos 0))
 
 -- each number does
-unfoldable pub within_sizes : (numbers limits : List ℤ) (step first : ℕ) → Bool
-within_sizes numbers limits step first = all_to (length numbers) (within_size numbers limits step first)
+unfoldable pub within_sizes : (numbers limits : List ℤ) (first step : ℕ) → Bool
+within_sizes numbers limits first step = all_to (length numbers) (within_size numbers limits first step)
 
 -- pool p is in balance under the amounts and flows sent
 abbrev pub pool_balanced : (m : ℕ) (bids amounts flows : List ℤ) → ℕ → Bool
@@ -30,8 +30,8 @@ pool_balanced m bids amounts flows = balanced_at (bids_only (length amounts) m b
 -- the three tests in turn: the amounts, the flows, the pools
 abbrev pub tested : Book → (amounts flows : List ℤ) → Bool
 tested B amounts flows =
-    within_sizes amounts B.bids bid_numbers quantity_place
-    && (within_sizes flows B.capacities 1 0 && all_to B.m (pool_balanced B.m B.bids amounts flows))
+    within_sizes amounts B.bids quantity_place bid_numbers
+    && (within_sizes flows B.capacities 0 1 && all_to B.m (pool_balanced B.m B.bids amounts flows))
 
 -- what is known of a book and of how many numbers are sent for it, if these are not refused
 pub record SentSizes (B : Book) (amounts flows : ℕ) : Type 0 where
@@ -65,25 +65,25 @@ module _ (B : Book) (amounts flows : List ℤ) (sizes : SentSizes B (length amou
     lines = sizes.flow_count;
   }
 
-  by_bids_lem : within_sizes amounts B.bids bid_numbers quantity_place ≡ amounts_within B amounts
+  amounts_tested : within_sizes amounts B.bids quantity_place bid_numbers ≡ amounts_within B amounts
   unfolding within_sizes amounts_within
-  by_bids_lem = ap (λ (k : ℕ). all_to k (within_size amounts B.bids bid_numbers quantity_place)) sizes.amount_count
+  amounts_tested = ap (λ (k : ℕ). all_to k (within_size amounts B.bids quantity_place bid_numbers)) sizes.amount_count
 
   -- line k of the table as it stands
   abbrev line : ℕ → Bool
   line k = within (pos 0) (pos (nat_abs (get_or B.capacities k (pos 0)))) (get_or flows k (pos 0))
 
-  by_lines_lem : within_sizes flows B.capacities 1 0 ≡ flows_within B flows
+  flows_tested : within_sizes flows B.capacities 0 1 ≡ flows_within B flows
   unfolding within_sizes flows_within
-  by_lines_lem =
-      all_to_ext (length flows) (within_size flows B.capacities 1 0) line
+  flows_tested =
+      all_to_ext (length flows) (within_size flows B.capacities 0 1) line
       (λ k l. ap (λ (at : ℕ). within (pos 0) (pos (nat_abs (get_or B.capacities at (pos 0)))) (get_or flows k (pos 0))) (let e : 1 * k + 0 ≡ k = omega arith in e))
       ∙ ap (λ (k : ℕ). all_to k line) sizes.flow_count
       ∙ all_to_rows B.m B.m line
 
-  by_pools_lem : all_to B.m (pool_balanced B.m B.bids amounts flows) ≡ balanced B (clearing_of B.m amounts flows)
+  pools_tested : all_to B.m (pool_balanced B.m B.bids amounts flows) ≡ balanced B (clearing_of B.m amounts flows)
   unfolding balanced_at balanced
-  by_pools_lem =
+  pools_tested =
       let c : Clearing = clearing_of B.m amounts flows in
       let count = sizes.amount_count in
       all_to_ext B.m _ _
@@ -94,4 +94,4 @@ module _ (B : Book) (amounts flows : List ℤ) (sizes : SentSizes B (length amou
 
   pub tests_feasible : tested B amounts flows ≡ feasible_numbers B amounts flows
   unfolding feasible_numbers
-  tests_feasible = ap₂ ◌&&◌ by_bids_lem (ap₂ ◌&&◌ by_lines_lem by_pools_lem)
+  tests_feasible = ap₂ ◌&&◌ amounts_tested (ap₂ ◌&&◌ flows_tested pools_tested)

@@ -21,12 +21,12 @@ pub struct Sent<'a> {
 
 // A book's counts and tables, and how many amounts and flows are sent for it: 1, 2, 3.
 #[tactic(auto, unfolding(definitions::specs::Checks::sent_refusal))]
-pub fn judge_sent(book: &LentBook, amounts: usize, flows: usize) -> Result<Counts, Reason>
-    ensures refusal { refusal_of result ≡ sent_refusal (book_of book.now) amounts flows }
+pub fn judge_sent(book: &LentBook, sent: &Sent) -> Result<Counts, Reason>
+    ensures refusal { refusal_of result ≡ sent_refusal (book_of book.now) (length sent.now.amounts.now) (length sent.now.flows.now) }
     ensures counts { IfOk result (λ counts. (counts.n ≡ book.now.n) × (counts.m ≡ book.now.m)) }
 {
     let counts = judge_tables(book)?;
-    if amounts != counts.n || flows != counts.lines() {
+    if sent.amounts.len() != counts.n || sent.flows.len() != counts.lines() {
         return Err(Reason::Length);
     }
     Ok(counts)
@@ -41,9 +41,9 @@ fn is_within_size(number: i32, limit: i32) -> bool
 
 // Each number lies between 0 and the size of its limit. One test of amounts and flows: the limit of number k stands at step × k + first, since an
 // amount's is one of three numbers of its bid; with the bids cut in chunks, the two would be tested by loops that differ in this alone.
-fn are_within(numbers: &[i32], limits: &[i32], step: usize, first: usize) -> bool
+fn are_within(numbers: &[i32], limits: &[i32], first: usize, step: usize) -> bool
     requires { (k : ℕ) → k < length numbers.now → step * k + first < length limits.now }
-    ensures { result ≡ within_sizes numbers.now limits.now step first }
+    ensures { result ≡ within_sizes numbers.now limits.now first step }
 {
     for (k, &number) in numbers.iter().enumerate() {
         let limit = limits[step * k + first];
@@ -76,9 +76,9 @@ fn are_feasible(book: &LentBook, sent: &Sent) -> bool
     are_within(
         sent.amounts,
         book.bids,
-        Limits::BID_NUMBERS,
         Limits::QUANTITY_PLACE,
-    ) && are_within(sent.flows, book.capacities, 1, 0)
+        Limits::BID_NUMBERS,
+    ) && are_within(sent.flows, book.capacities, 0, 1)
         && is_balanced(book, sent)
 }
 
@@ -87,5 +87,5 @@ fn are_feasible(book: &LentBook, sent: &Sent) -> bool
 pub fn is_feasible(book: &LentBook, sent: &Sent) -> bool
     ensures { result ≡ sent_feasible (book_of book.now) sent.now.amounts.now sent.now.flows.now }
 {
-    judge_sent(book, sent.amounts.len(), sent.flows.len()).is_ok() && are_feasible(book, sent)
+    judge_sent(book, sent).is_ok() && are_feasible(book, sent)
 }

@@ -18,19 +18,19 @@ module _ (B : Book) (amounts flows : List ℤ) where
   pub numbers_feasible : feasible_numbers B amounts flows ≡ true → SentAs B amounts flows (clearing_of B.m amounts flows) × Feasible B (clearing_of B.m amounts flows)
   unfolding feasible_numbers amounts_within flows_within balanced balanced_at
   numbers_feasible e =
-      let by_bids_lem = first_so (amounts_within B amounts) _ e in
+      let amounts_pass = first_so (amounts_within B amounts) _ e in
       let rest = second_so (amounts_within B amounts) _ e in
-      let by_lines_lem = first_so (flows_within B flows) _ rest in
-      let by_pools_lem = second_so (flows_within B flows) _ rest in
+      let flows_pass = first_so (flows_within B flows) _ rest in
+      let pools_pass = second_so (flows_within B flows) _ rest in
       let amount : (i : ℕ) → i < B.n → (amount_sent amounts i ≡ pos (given.accepted i)) × (given.accepted i ≤ size B i)
-      = λ i l. from_zero (size B i) (amount_sent amounts i) (all_to_at B.n _ by_bids_lem i l) in
+      = λ i l. from_zero (size B i) (amount_sent amounts i) (all_to_at B.n _ amounts_pass i l) in
       let flow : (a b : ℕ) → a < B.m → b < B.m → (flow_sent B.m flows a b ≡ pos (given.flow a b)) × (given.flow a b ≤ capacity B a b)
-      = λ a b l r. from_zero (capacity B a b) (flow_sent B.m flows a b) (all_to_at B.m _ (all_to_at B.m _ by_lines_lem a l) b r) in (
+      = λ a b l r. from_zero (capacity B a b) (flow_sent B.m flows a b) (all_to_at B.m _ (all_to_at B.m _ flows_pass a l) b r) in (
         record { amounts_are = λ i l. (amount i l).0; flows_are = λ a b l r. (flow a b l r).0 },
         record {
           amounts = λ i l. (amount i l).1;
           flows = λ a b l r. (flow a b l r).1;
-          balance = λ p l. eqb-true _ _ (all_to_at B.m _ by_pools_lem p l);
+          balance = λ p l. eqb-true _ _ (all_to_at B.m _ pools_pass p l);
         },
       )
 

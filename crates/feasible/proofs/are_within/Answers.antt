@@ -11,7 +11,7 @@ pub loop-k-init : goal.loop-k-init
 loop-k-init c = all_to_begins _
 
 -- what was found of this turn's number
-found : (c : After-is_within_size) → let a = c.args in c.is_within_size.result ≡ within_size a.numbers.now a.limits.now a.step a.first c.loop-k.k
+found : (c : After-is_within_size) → let a = c.args in c.is_within_size.result ≡ within_size a.numbers.now a.limits.now a.first a.step c.loop-k.k
 found c =
     let a = c.args in
     let k = c.loop-k.k in
@@ -24,17 +24,17 @@ pub returns-then-not-is_within_size : goal.returns-then-not-is_within_size
 unfolding within_sizes
 returns-then-not-is_within_size c =
     let a = c.args in
-    sym (all_to_fails (length a.numbers.now) (within_size a.numbers.now a.limits.now a.step a.first) c.loop-k.k c.loop-k-test.true
+    sym (all_to_fails (length a.numbers.now) (within_size a.numbers.now a.limits.now a.first a.step) c.loop-k.k c.loop-k-test.true
     (sym (found c.before) ∙ c.if-not-is_within_size.true))
 
 pub loop-k-preserved : goal.loop-k-preserved
 loop-k-preserved c =
     let a = c.args in
-    all_to_turn c.loop-k.k (within_size a.numbers.now a.limits.now a.step a.first) c.loop-k.invariant (sym (found c.before) ∙ c.if-not-is_within_size.false)
+    all_to_turn c.loop-k.k (within_size a.numbers.now a.limits.now a.first a.step) c.loop-k.invariant (sym (found c.before) ∙ c.if-not-is_within_size.false)
 
 pub returns : goal.returns
 unfolding within_sizes
 returns c =
     let a = c.args in
     let e : length a.numbers.now ≡ c.loop-k.k = omega arith in
-    sym (ap (λ (k : ℕ). all_to k (within_size a.numbers.now a.limits.now a.step a.first)) e ∙ c.loop-k.invariant)
+    sym (ap (λ (k : ℕ). all_to k (within_size a.numbers.now a.limits.now a.first a.step)) e ∙ c.loop-k.invariant)

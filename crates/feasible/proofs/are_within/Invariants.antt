@@ -5,4 +5,4 @@ use Rattle.feasible.specs.Tests.{within_size}
 use Rattle.feasible.proofs.are_within.Given as goal
 
 abbrev pub invariant-loop-k : goal.invariant-loop-k
-invariant-loop-k l = all_to l.k (within_size l.numbers l.limits l.step l.first) ≡ true
+invariant-loop-k l = all_to l.k (within_size l.numbers l.limits l.first l.step) ≡ true
