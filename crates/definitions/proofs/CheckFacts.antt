@@ -1,5 +1,5 @@
 -- The test of a feasible clearing and the refusals on small books; which clearings are optimal, which numbers pass, and what exactly means.
-use Rattle.std.proofs.Common.{ℕ, zero, suc, ◌+◌, ◌*◌, ◌≤◌, ◌≡◌, refl, sym, ap, Bool, true, false, true≢false, List, [], ◌∷◌, arith, get_or, ℤ, pos, negsuc, neg_ℤ, nat_abs, ◌≤ℤ◌}
+use Rattle.std.proofs.Common.{ℕ, zero, suc, ◌+◌, ◌*◌, ◌≤◌, ◌≡◌, refl, sym, ap, Bool, true, false, true≢false, List, [], ◌∷◌, arith, get_or, replicate, ℤ, pos, negsuc, neg_ℤ, nat_abs, ◌≤ℤ◌}
 use Rattle.definitions.proofs.Cases.{below_two, lines_of_two}
 use Rattle.definitions.specs.Arithmetic.{sum_to, sum_z, all_to}
 use Rattle.definitions.specs.Book.{Book, book}
@@ -76,14 +76,14 @@ lengths :
 unfolding sent_refusal
 lengths = refl
 
--- the test of numbers of any length: right numbers; each of the four lengths one off; too many bids; out of balance
+-- the test of numbers of any length: right numbers; each of the four lengths one off; too many pools; out of balance
 tested :
     sent_feasible book_two (pos 3 ∷ pos 3 ∷ []) (shipped (pos 3) (pos 0))
     ∷ sent_feasible (book 1 1 (pos 1 ∷ pos 5 ∷ []) (pos 0 ∷ [])) (pos 0 ∷ []) (pos 0 ∷ [])
     ∷ sent_feasible (book 1 1 (pos 1 ∷ pos 5 ∷ pos 7 ∷ []) []) (pos 0 ∷ []) (pos 0 ∷ [])
     ∷ sent_feasible (one (pos 1) (pos 5) (pos 7) (pos 0)) [] (pos 0 ∷ [])
     ∷ sent_feasible (one (pos 1) (pos 5) (pos 7) (pos 0)) (pos 0 ∷ []) (pos 0 ∷ pos 0 ∷ [])
-    ∷ sent_feasible (book 0 5 [] []) [] []
+    ∷ sent_feasible (book 0 5 [] (replicate 25 (pos 0))) [] (replicate 25 (pos 0))
     ∷ sent_feasible book_two (pos 2 ∷ pos 3 ∷ []) (shipped (pos 3) (pos 0))
     ∷ []
     ≡ true ∷ false ∷ false ∷ false ∷ false ∷ false ∷ false ∷ []
@@ -135,6 +135,10 @@ none_not_optimal : (c : Clearing) → c.accepted 0 ≡ 0 → c.accepted 1 ≡ 0 
 unfolding pair traded welfare sum_z
 none_not_optimal c p q o = rw (p, q) at (o.none_greater (traded 1) (traded_feasible 1 (omega arith))).le
 
+not_below_zero : ℤ → Bool
+not_below_zero (pos n) = true
+not_below_zero (negsuc n) = false
+
 -- the trade's numbers pass, by rows
 trade_passes : Passes pair (pos 1 ∷ pos 1 ∷ []) (shipped (pos 1) (pos 0))
 unfolding pair traded check_refusal sent_refusal seal_refusal bids_refusal capacities_refusal row_refusal first_from
@@ -145,14 +149,10 @@ trade_passes = record {
   optimal = trade_optimal;
 }
 
-is_positive : ℤ → Bool
-is_positive (pos n) = true
-is_positive (negsuc n) = false
-
 -- the same with every sign turned, one amount too many, nothing shipped, nothing traded: none of these passes
 below_zero : Passes pair (neg_ℤ (pos 1) ∷ neg_ℤ (pos 1) ∷ []) (shipped (neg_ℤ (pos 1)) (pos 0)) → ⊥
-unfolding pair is_positive
-below_zero p = true≢false (sym (ap is_positive (p.sent.amounts_are 0 (omega arith))))
+unfolding pair not_below_zero
+below_zero p = true≢false (sym (ap not_below_zero (p.sent.amounts_are 0 (omega arith))))
 
 too_many : Passes pair (pos 1 ∷ pos 1 ∷ pos 0 ∷ []) (shipped (pos 1) (pos 0)) → ⊥
 unfolding pair check_refusal sent_refusal
@@ -192,8 +192,8 @@ both_ways = record {
 
 -- and below 0 they do not, though they balance
 both_below_zero : Passes book_seven [] (shipped (neg_ℤ (pos 5)) (neg_ℤ (pos 5))) → ⊥
-unfolding book_seven is_positive
-both_below_zero p = true≢false (sym (ap is_positive (p.sent.flows_are 0 1 (omega arith) (omega arith))))
+unfolding book_seven not_below_zero
+both_below_zero p = true≢false (sym (ap not_below_zero (p.sent.flows_are 0 1 (omega arith) (omega arith))))
 
 -- ---- exactly: not no to what is, nor yes to what is not; no to what is not, and yes to what is
 

@@ -1,4 +1,4 @@
--- When a call is not refused (`total_passes`, `bytes_pass`), what is then known of it, and what each call leaves.
+-- When a call is not refused (`total_passes`, `bytes_pass`), and what is then known of it and of what it leaves.
 use Rattle.std.specs.Prelude.{ℕ, ◌≤◌, ◌≡◌, refl, List, eqb, length}
 use Rattle.std.proofs.Common.{ap, ◌∙◌, eq-eqb, le-ltb}
 use Rattle.definitions.specs.Answers.{Refusal, none, refuse, first, unless}

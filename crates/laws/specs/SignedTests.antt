@@ -47,9 +47,6 @@ eq_bits {w = w} {x = x} {y = y} f g = go (eq? (of_z w x) (of_z w y))
 pub back : (w : Width) (z : ℤ) → mag z < 2 ^ hbits w → to_z w (of_z w z) ≡ z
 back w z h = to_z-of_z {w = w} {z = z} (record { sfits = h })
 
--- ---- a number of 32 bits fits in 64, and is read back from its 64 bits
-pub widened_fits : {z : ℤ} → SFits w32 z → SFits w64 (to_z w32 (of_z w32 z))
-widened_fits f = subst (SFits w64) (sym (to_z-of_z f)) (sfits_widen tt f)
-
+-- ---- a number of 32 bits is read back from its 64 bits
 pub widened : {z : ℤ} → SFits w32 z → to_z w64 (of_z w64 (to_z w32 (of_z w32 z))) ≡ z
 widened f = ap (λ (z : ℤ). to_z w64 (of_z w64 z)) (to_z-of_z f) ∙ to_z-of_z {w = w64} (sfits_widen tt f)

@@ -25,7 +25,7 @@ fitting = refl
 
 -- ---- what changes hands: 3 are sold in the first pool, brought over, and bought in the second
 
--- by any four numbers that are given for a pool
+-- these four numbers are given for pool p
 abbrev given : (p : ℕ) (flows : List ℤ) (sales purchases entering leaving : ℕ) → Type 0
 given p flows = PoolSummed 2 p book_two.bids (pos 3 ∷ pos 3 ∷ []) flows
 
@@ -37,7 +37,7 @@ second_pool : (s b i o : ℕ) → given 1 (pos 0 ∷ pos 3 ∷ pos 0 ∷ pos 0 �
 unfolding book_two summable sold bought inflow outflow sum_to
 second_pool s b i o g = cc (g.sold_is, g.bought_is, g.inflow_is, g.outflow_is)
 
--- with a flow missing the tables do not fit
+-- with a flow missing the tables do not fit, and each number is 0
 no_sums : (s b i o : ℕ) → given 0 (pos 0 ∷ pos 3 ∷ pos 0 ∷ []) s b i o → s ∷ b ∷ i ∷ o ∷ [] ≡ 0 ∷ 0 ∷ 0 ∷ 0 ∷ []
 unfolding book_two summable
 no_sums s b i o g = cc (g.sold_is, g.bought_is, g.inflow_is, g.outflow_is)
