@@ -14,3 +14,4 @@ pub mod Examples
 pub mod Settle
 pub mod Views
 pub mod Checks
+pub mod Counts

@@ -1,6 +1,7 @@
 -- How large the numbers of a phase are, at the limits of the counts.
 use Rattle.std.specs.Prelude.{ℕ, ◌+◌, ◌*◌}
 use Rattle.definitions.specs.declared.Counts as unit
+use Rattle.definitions.specs.Counts.{bids_fit, some_pools, pools_fit}
 use Rattle.laws.specs.Sizes.{Counts}
 use Rattle.definitions.specs.Limits.{bid_limit, pool_limit, cell_count}
 
@@ -26,4 +27,4 @@ phase_limit = bid_limit * row_limit
 
 -- counts that are not refused
 pub limited : (c : unit.Counts) → Counts c.n c.m
-limited c = record { bids = c.bids_fit; pools = record { least = c.some_pools; most = c.pools_fit } }
+limited c = record { bids = bids_fit c; pools = record { least = some_pools c; most = pools_fit c } }

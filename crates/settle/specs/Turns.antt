@@ -4,9 +4,9 @@ use Rattle.std.specs.declared.ops.ControlFlow.{ControlFlow}
 use Rattle.std.specs.declared.ops.ControlFlow.TheVariants.{Continue, Break}
 use Rattle.definitions.specs.Settle.{settle_text, unreadable_text, refused_text}
 use Rattle.plan.specs.Plan.{plan}
-use Rattle.stages.specs.Counting.{Input, stage_input}
+use Rattle.stages.specs.Counting.{Input}
 use Rattle.text.specs.declared.Reader.{Reader}
-use Rattle.text.specs.Reading.{Reading, read_so_far, start_reader, word_ended, fed, failed_read}
+use Rattle.text.specs.Reading.{Reading, read_so_far, start_reader, word_ended, fed, failed_read, answer_so_far}
 
 -- ---- One turn
 
@@ -17,7 +17,7 @@ pub record Left : Type 0 where
 
 -- the text ends here
 abbrev pub left_by : Reading → Left
-left_by s = record { input = stage_input (word_ended s).reader.stage; numbers = (word_ended s).numbers }
+left_by s = record { input = answer_so_far (word_ended s); numbers = (word_ended s).numbers }
 
 -- the text breaks off here
 abbrev pub broken_off : Reading → Left

@@ -13,8 +13,8 @@ use Rattle.stages.specs.declared.Stage.TheVariants as stage
 use Rattle.stages.specs.declared.Unsettled.TheVariants.{Unreadable, Refused}
 use Rattle.stages.specs.Words.{grown_by}
 use Rattle.stages.specs.Counting as answer
-use Rattle.stages.specs.Counting.{Progress, stage_input, input_for}
-use Rattle.text.specs.Reading.{Reading, read_so_far, start_reader, word_ended, after_byte, fed, failed_read}
+use Rattle.stages.specs.Counting.{Progress, input_for}
+use Rattle.text.specs.Reading.{Reading, read_so_far, start_reader, word_ended, after_byte, fed, failed_read, answer_so_far}
 use Rattle.text.specs.Steps.{fed_append}
 use Rattle.text.specs.Texts.{none_stored, whole_read, reads}
 
@@ -70,14 +70,14 @@ no_number_lem Minus = refl
 no_number_lem (Digits d) = refl
 no_number_lem NoNumber = refl
 
-byte_no_book : (word : Word) (s : Progress) (stored : List ℤ) → NoBook (stage_input (word_ended (after_byte (read_so_far (record { word = word; stage = s }) stored) 63)).reader.stage)
+byte_no_book : (word : Word) (s : Progress) (stored : List ℤ) → NoBook (answer_so_far (word_ended (after_byte (read_so_far (record { word = word; stage = s }) stored) 63)))
 unfolding after_byte word_ended
 byte_no_book word (Ok stage.First) stored = rw (no_number_lem word) tt
 byte_no_book word (Ok (stage.Second n)) stored = rw (no_number_lem word) tt
 byte_no_book word (Ok (stage.Tables n m read)) stored = rw (no_number_lem word) tt
 byte_no_book word (Err why) stored = tt
 
-broken_no_book : (s : Reading) → NoBook (stage_input (word_ended (fed s failed_read)).reader.stage)
+broken_no_book : (s : Reading) → NoBook (answer_so_far (word_ended (fed s failed_read)))
 unfolding fed
 broken_no_book s = byte_no_book s.reader.word s.reader.stage s.numbers
 
@@ -94,6 +94,6 @@ unfolding settle_input
 broken_turned_away text =
     let s = fed (read_so_far start_reader none_stored) text in
     let read = whole_read none_stored (text ++ failed_read) in
-    no_book_to_clear (stage_input read.reader.stage) read.numbers (settle_input (text ++ failed_read)) (reads none_stored (text ++ failed_read) refl)
-    (subst (λ (r : Reading). NoBook (stage_input (word_ended r).reader.stage)) (fed_append text failed_read (read_so_far start_reader none_stored)) (broken_no_book s))
+    no_book_to_clear (answer_so_far read) read.numbers (settle_input (text ++ failed_read)) (reads none_stored (text ++ failed_read) refl)
+    (subst (λ (r : Reading). NoBook (answer_so_far (word_ended r))) (fed_append text failed_read (read_so_far start_reader none_stored)) (broken_no_book s))
     (words_refuse (words (text ++ failed_read)))

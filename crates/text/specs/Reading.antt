@@ -4,7 +4,7 @@ use Rattle.definitions.specs.Settle.{blank}
 use Rattle.stages.specs.declared.words.Word.TheVariants.{Empty}
 use Rattle.stages.specs.declared.Stage.TheVariants as stage
 use Rattle.stages.specs.Words.{grown_by, ended_of}
-use Rattle.stages.specs.Counting.{taken_by, place_for, stored_at, decided}
+use Rattle.stages.specs.Counting.{Input, stage_input, taken_by, place_for, stored_at, decided}
 use Rattle.text.specs.declared.Reader.{Reader}
 
 -- a reader with the numbers that it has stored
@@ -15,6 +15,10 @@ pub record Reading : Type 0 where
 -- the state of a reader with its numbers
 abbrev pub read_so_far : Reader → List ℤ → Reading
 read_so_far reader numbers = record { reader = reader; numbers = numbers }
+
+-- what a reader answers by the words that it has read
+abbrev pub answer_so_far : Reading → Input
+answer_so_far s = stage_input s.reader.stage
 
 -- before the first byte
 abbrev pub start_reader : Reader

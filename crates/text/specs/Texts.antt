@@ -9,7 +9,7 @@ use Rattle.stages.specs.declared.Stage.TheVariants as stage
 use Rattle.stages.specs.declared.Unsettled.TheVariants.{Unreadable, Refused}
 use Rattle.stages.specs.Words.{Ended, nothing, ended_of}
 use Rattle.stages.specs.Counting.{table_numbers, Progress, decided, taken_by, stage_input, input_for}
-use Rattle.text.specs.Reading.{Reading, read_so_far, start_reader, word_ended, fed}
+use Rattle.text.specs.Reading.{Reading, read_so_far, start_reader, word_ended, fed, answer_so_far}
 use Rattle.text.specs.Steps.{step_blank, step_grown, decided_stays}
 use Rattle.stages.specs.Values.{word_from, word_more, word_ends}
 use Rattle.stages.specs.Stages.{Held, Onward, continued, word_taken, text_ended}
@@ -20,7 +20,7 @@ in_word word s stored = read_so_far (record { word = word; stage = s }) stored
 
 -- what the text is if it ends here
 unfoldable finished : Reading → settle.Input
-finished s = input_for (stage_input (word_ended s).reader.stage) (word_ended s).numbers
+finished s = input_for (answer_so_far (word_ended s)) (word_ended s).numbers
 
 -- ---- The answer is known
 
@@ -91,6 +91,6 @@ abbrev pub whole_read : (before : List ℤ) (text : List ℕ) → Reading
 whole_read before text = word_ended (fed (read_so_far start_reader before) text)
 
 -- it is what document 01 says of it
-pub reads : (before : List ℤ) (text : List ℕ) → length before ≡ table_numbers → let read = whole_read before text in input_for (stage_input read.reader.stage) read.numbers ≡ settle_input text
+pub reads : (before : List ℤ) (text : List ℕ) → length before ≡ table_numbers → let read = whole_read before text in input_for (answer_so_far read) read.numbers ≡ settle_input text
 unfolding settle_input words word_from finished
 reads before text l = reads_from text [] (Ok stage.First) before tt l

@@ -4,8 +4,8 @@
 
 ghost use Rattle.std.specs.Prelude.{◌≡◌};
 ghost use Rattle.definitions.specs.Settle.{settle_input};
-ghost use Rattle.stages.specs.Counting.{stage_input, input_for};
-ghost use Rattle.text.specs.Reading.{read_so_far, start_reader, fed, failed_read, after_byte, word_ended};
+ghost use Rattle.stages.specs.Counting.{input_for};
+ghost use Rattle.text.specs.Reading.{read_so_far, start_reader, fed, failed_read, after_byte, word_ended, answer_so_far};
 ghost use Rattle.text.specs.Texts.{none_stored, whole_read};
 
 use stages::words::{Word, is_blank};
@@ -77,7 +77,7 @@ impl Reader {
 
     // The text has ended, and with it its last word.
     pub fn finish(self, numbers: &mut [i32; Reader::NUMBERS]) -> Input
-        ensures value { result ≡ stage_input (word_ended (read_so_far self numbers.old)).reader.stage }
+        ensures value { result ≡ answer_so_far (word_ended (read_so_far self numbers.old)) }
         ensures numbers_after { numbers.new ≡ (word_ended (read_so_far self numbers.old)).numbers }
     {
         let reader = self.end_word(numbers);
@@ -87,7 +87,7 @@ impl Reader {
     // The text breaks off: its rest is not known, and the part that is may be a whole book. So a byte that no text may have is fed: the text is
     // then unreadable, unless its counts were refused before.
     pub fn break_off(self, numbers: &mut [i32; Reader::NUMBERS]) -> Input
-        ensures value { result ≡ stage_input (word_ended (fed (read_so_far self numbers.old) failed_read)).reader.stage }
+        ensures value { result ≡ answer_so_far (word_ended (fed (read_so_far self numbers.old) failed_read)) }
         ensures numbers_after { numbers.new ≡ (word_ended (fed (read_so_far self numbers.old) failed_read)).numbers }
     {
         self.feed(b"?", numbers).finish(numbers)

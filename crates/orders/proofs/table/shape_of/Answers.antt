@@ -1,5 +1,6 @@
 -- The scratch cells are cells of the sheet, and the last arm is that of the last phase.
 use Rattle.std.proofs.Common.{◌≡◌, refl, arith}
+use Rattle.definitions.specs.Counts.{bids_fit, pools_fit}
 use Rattle.plan.proofs.PlanFacts.{names_fit}
 use Rattle.plan.specs.Table.{phase_at, table, work}
 use Rattle.orders.specs.Shaped.{shape_known}
@@ -7,7 +8,7 @@ use Rattle.orders.proofs.table.shape_of.Goals as goal
 
 pub many-requires-in_default-clause-few : goal.many-requires-in_default-clause-few
 many-requires-in_default-clause-few c =
-    let k = c.args.counts in omega (arith, names_fit k.n k.m k.bids_fit k.pools_fit, c.requires.scratch_value)
+    let k = c.args.counts in omega (arith, names_fit k.n k.m (bids_fit k) (pools_fit k), c.requires.scratch_value)
 
 pub returns-in_default : goal.returns-in_default
 unfolding phase_at table work
