@@ -1,5 +1,5 @@
 -- Decimal digits: how many there are at most, and that std prints the same ones.
-use Rattle.std.specs.Prelude.{List, ◌^◌, ℕ, zero, suc, ◌+◌, ◌-◌, ◌/◌, ◌%◌, ◌≤◌, ◌<◌, ◌≡◌, Bool, cond, [], ◌∷◌, ◌++◌, length, ℤ, pos, negsuc}
+use Rattle.std.specs.Prelude.{List, ◌^◌, ℕ, zero, suc, ◌+◌, ◌/◌, ◌%◌, ◌≤◌, ◌<◌, ◌≡◌, Bool, cond, [], ◌∷◌, ◌++◌, length, ℤ, pos, negsuc}
 use Rattle.std.proofs.Common.{sym, ap, arith, length-append, lt-ltb, le-ltb}
 use Rattle.std.specs.Int.Signed.{mag}
 use Rattle.std.specs.Fmt as std
