@@ -8,3 +8,4 @@ pub mod OutcomeFacts
 pub mod SettleFacts
 pub mod ViewFacts
 pub mod CheckFacts
+pub mod RunningSumFacts

@@ -10,6 +10,7 @@ use Rattle.definitions.specs.Machine.{cell, run_of}
 use Rattle.definitions.specs.Calls.{seal_refusal, bids_refusal, capacities_refusal, row_refusal, first_from}
 use Rattle.definitions.specs.Plan.{Plan}
 use Rattle.definitions.specs.Outcome.{Outcome, clearing_results, order_limit, plan_run, clear_sheet, clear_count, clear_welfare}
+use Rattle.definitions.specs.RunningSum.{running_sum, sum_of_sales, sales_welfare, clear_sales}
 
 -- a clearing of one pool from its amounts
 abbrev amounts : List ℕ → Clearing
@@ -128,6 +129,10 @@ counted = refl
 summed : clear_welfare three book_one 4096 ∷ clear_welfare three book_one 4095 ∷ [] ≡ pos 60 ∷ pos 0 ∷ []
 unfolding three book_one clear_welfare welfare sum_z plan_run run_of sealed_sheet seal_refusal bids_refusal capacities_refusal row_refusal first_from
 summed = refl
+
+sales_summed : clear_sales three book_one 4096 ∷ clear_sales three book_one 4095 ∷ [] ≡ neg_ℤ (pos 120) ∷ pos 0 ∷ []
+unfolding three book_one clear_sales sales_welfare sum_of_sales running_sum plan_run run_of sealed_sheet seal_refusal bids_refusal capacities_refusal row_refusal first_from
+sales_summed = refl
 
 -- demand 3's limit, at the ends and at a middle
 limits : order_limit 0 1 ∷ order_limit 8 2 ∷ order_limit 64 4 ∷ [] ≡ 10000 ∷ 249680 ∷ 40419600 ∷ []

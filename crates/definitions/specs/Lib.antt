@@ -14,4 +14,5 @@ pub mod Examples
 pub mod Settle
 pub mod Views
 pub mod Checks
+pub mod RunningSum
 pub mod Counts
