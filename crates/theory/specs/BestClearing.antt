@@ -4,11 +4,12 @@ use Rattle.std.proofs.Common.{subst}
 use Rattle.definitions.specs.Book.{Book}
 use Rattle.definitions.specs.Clearing.{Clearing, Feasible, Best, Permitted, before, used, welfare}
 use Rattle.definitions.specs.Calls.{AcceptedBook}
+use Rattle.definitions.specs.RunningSum.{sales_welfare}
 use Rattle.laws.specs.AcceptedBook.{accepted_sound}
 use Rattle.theory.specs.StrictOrder.{StrictTotal}
 use Rattle.theory.specs.BookNetwork.{before_strict_total}
 use Rattle.theory.specs.Dictionary.{no_greater_antisymmetric}
-use Rattle.theory.specs.SameClearing.{accepted_by_used, welfare_same}
+use Rattle.theory.specs.SameClearing.{accepted_by_used, welfare_same, sales_welfare_same}
 use Rattle.theory.specs.CutClearing.{cut_clearing, cut_best, cut_permitted, cut_welfare}
 
 -- the merit order is a strict total order on the bids
@@ -35,3 +36,7 @@ best_welfare B h c b d f =
 -- so all best clearings have one welfare
 pub welfare_of_best : (B : Book) → AcceptedBook B → (c d : Clearing) → Best B c → Best B d → welfare B c.accepted ≡ welfare B d.accepted
 welfare_of_best B h c d b e = welfare_same B c.accepted d.accepted (best_unique B h c d b e)
+
+-- and one welfare of the sales
+pub sales_of_best : (B : Book) → AcceptedBook B → (c d : Clearing) → Best B c → Best B d → sales_welfare B c.accepted ≡ sales_welfare B d.accepted
+sales_of_best B h c d b e = sales_welfare_same B c.accepted d.accepted (best_unique B h c d b e)
