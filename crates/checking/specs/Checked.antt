@@ -1,6 +1,8 @@
 -- What the code tests of numbers that are not refused is what yes says (`answer_exact`).
-use Rattle.std.specs.Prelude.{◌≡◌, Bool, true, ◌&&◌, List, map, length, ℤ, nat_abs}
+use Rattle.std.specs.Prelude.{◌≡◌, Bool, true, ◌&&◌, List, map, length, ℤ, pos, nat_abs}
 use Rattle.std.proofs.Common.{sym, ◌∙◌, arith}
+use Rattle.std.proofs.lemmas.List.{length-map}
+use Rattle.std.proofs.Math.ListN.{get_or-map}
 use Rattle.definitions.specs.Limits.{cell_count}
 use Rattle.definitions.specs.Arithmetic.{eq_z}
 use Rattle.definitions.specs.Book.{Book}
@@ -16,7 +18,7 @@ use Rattle.std.specs.Cmp.{first_so, second_so}
 use Rattle.theory.specs.FeasibleNumbers.{numbers_feasible, feasible_numbers_lem, same_amounts}
 use Rattle.theory.specs.Optimal.{optimal_by_welfare, welfare_of_optimal}
 use Rattle.theory.specs.SameClearing.{welfare_same}
-use Rattle.sums.specs.SummedWelfare.{summed_welfare, sent_welfare_is}
+use Rattle.sums.specs.SummedWelfare.{summed, summed_is, welfare_over_bids}
 use Rattle.feasible.specs.Tests.{sent_sizes}
 use Rattle.plan.specs.Plan.{plan}
 use Rattle.clearing.specs.PlanClears.{plan_outcome}
@@ -25,7 +27,7 @@ use Rattle.clearing.specs.Demand3.{cleared_by_plan}
 -- the numbers sent are a feasible clearing, and its welfare is the one that clearing gives
 unfoldable pub found_optimal : Book → (amounts flows : List ℤ) → Bool
 found_optimal B amounts flows =
-    sent_feasible B amounts flows && eq_z (summed_welfare B.bids (map nat_abs amounts)) (clear_welfare plan B cell_count)
+    sent_feasible B amounts flows && eq_z (summed welfare B.bids (map nat_abs amounts)) (clear_welfare plan B cell_count)
 
 module _ (B : Book) (amounts flows : List ℤ) (passed : check_refusal B (length amounts) (length flows) ≡ none) where
   sent : sent_refusal B (length amounts) (length flows) ≡ none
@@ -50,10 +52,12 @@ module _ (B : Book) (amounts flows : List ℤ) (passed : check_refusal B (length
   cleared = (cleared_by_plan B accepted).welfare_given best is_best
 
   -- the sum of a feasible clearing's welfare is formula (1)
-  summed : Feasible B given → summed_welfare B.bids (map nat_abs amounts) ≡ welfare B given.accepted
-  summed f =
+  sent_welfare : Feasible B given → summed welfare B.bids (map nat_abs amounts) ≡ welfare B given.accepted
+  sent_welfare f =
       let sound : Sound B = accepted_sound B accepted in
-      sent_welfare_is B amounts (sent_sizes B (length amounts) (length flows) sent).amount_count sound.bids sound.bid_table
+      summed_is welfare_over_bids B sound.bids sound.bid_table (map nat_abs amounts) given.accepted
+      (length-map amounts nat_abs ∙ (sent_sizes B (length amounts) (length flows) sent).amount_count)
+      (λ i l. get_or-map nat_abs amounts i (pos 0))
       (λ i l. omega (arith, f.amounts i l, sound.size_small i l))
 
   optimal_passes : found_optimal B amounts flows ≡ true → Passes B amounts flows
@@ -61,12 +65,12 @@ module _ (B : Book) (amounts flows : List ℤ) (passed : check_refusal B (length
   optimal_passes e =
       let tested = first_so (sent_feasible B amounts flows) _ e in
       let found = numbers_feasible B amounts flows (second_so (is_none (sent_refusal B (length amounts) (length flows))) _ tested) in
-      let same : summed_welfare B.bids (map nat_abs amounts) ≡ clear_welfare plan B cell_count = eq_z_true _ _ (second_so (sent_feasible B amounts flows) _ e) in
+      let same : summed welfare B.bids (map nat_abs amounts) ≡ clear_welfare plan B cell_count = eq_z_true _ _ (second_so (sent_feasible B amounts flows) _ e) in
       record {
         no_refusal = passed;
         clearing = given;
         sent = found.0;
-        optimal = optimal_by_welfare B accepted best is_best given found.1 (sym (summed found.1) ∙ same ∙ cleared);
+        optimal = optimal_by_welfare B accepted best is_best given found.1 (sym (sent_welfare found.1) ∙ same ∙ cleared);
       }
 
   passes_optimal : Passes B amounts flows → found_optimal B amounts flows ≡ true
@@ -74,8 +78,8 @@ module _ (B : Book) (amounts flows : List ℤ) (passed : check_refusal B (length
   passes_optimal p =
       let c : Clearing = p.clearing in
       let feasible = feasible_numbers_lem B amounts flows c p.sent p.optimal.feasible in
-      let same : summed_welfare B.bids (map nat_abs amounts) ≡ clear_welfare plan B cell_count
-      = summed (numbers_feasible B amounts flows feasible).1
+      let same : summed welfare B.bids (map nat_abs amounts) ≡ clear_welfare plan B cell_count
+      = sent_welfare (numbers_feasible B amounts flows feasible).1
       ∙ sym (welfare_same B c.accepted given.accepted (same_amounts B amounts flows c p.sent))
       ∙ welfare_of_optimal B accepted best is_best c p.optimal
       ∙ sym cleared in

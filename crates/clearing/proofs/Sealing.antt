@@ -8,6 +8,7 @@ use Rattle.definitions.specs.Machine.{IsSheet, run_of}
 use Rattle.definitions.specs.Answers.{Refusal, none, unless, is_none}
 use Rattle.definitions.specs.Calls.{AcceptedBook, seal_refusal, seal_sheet, counts_refusal}
 use Rattle.definitions.specs.Outcome.{result_of, plan_run, clear_sheet, clear_count, clear_welfare}
+use Rattle.definitions.specs.RunningSum.{sales_welfare, clear_sales}
 use Rattle.laws.specs.Refusal.{unless_refused, first_left}
 use Rattle.laws.specs.Sizes.{accepted_sizes}
 use Rattle.laws.specs.AcceptedBook.{Sound, accepted_sound}
@@ -28,6 +29,10 @@ module _ (B : Book) (lent : List ℕ) where
     pub refused_welfare : pos 0 ≡ clear_welfare plan B (length lent)
     unfolding clear_welfare
     refused_welfare = sym (unless_refused (seal_refusal B (length lent)) (welfare B (result_of B (plan_run plan B)).accepted) (pos 0) refused)
+
+    pub refused_sales : pos 0 ≡ clear_sales plan B (length lent)
+    unfolding clear_sales
+    refused_sales = sym (unless_refused (seal_refusal B (length lent)) (sales_welfare B (result_of B (plan_run plan B)).accepted) (pos 0) refused)
 
     pub refused_sheet : seal_sheet B lent ≡ clear_sheet plan B lent
     unfolding seal_sheet clear_sheet
@@ -59,6 +64,10 @@ module _ (B : Book) (lent : List ℕ) where
     pub welfare_given : welfare B (result_of B (plan_run plan B)).accepted ≡ clear_welfare plan B (length lent)
     unfolding clear_welfare
     welfare_given = sym (given (welfare B (result_of B (plan_run plan B)).accepted) (pos 0))
+
+    pub sales_given : sales_welfare B (result_of B (plan_run plan B)).accepted ≡ clear_sales plan B (length lent)
+    unfolding clear_sales
+    sales_given = sym (given (sales_welfare B (result_of B (plan_run plan B)).accepted) (pos 0))
 
     pub sheet_given : plan_run plan B ≡ clear_sheet plan B lent
     unfolding clear_sheet

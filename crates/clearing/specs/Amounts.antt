@@ -1,13 +1,11 @@
--- A bid table and a sheet whose accepted amounts are within limits, so that their welfare can be summed (`amounts_welfare`).
-use Rattle.std.specs.Prelude.{ℕ, ◌+◌, ◌*◌, ◌≤◌, ◌<◌, ◌≡◌, refl, List, length, get_or, take, drop, ℤ}
-use Rattle.std.proofs.Common.{ap, ◌∙◌, arith, mul-le-mul_right, length-take, length-drop, get_or-take, get_or-drop}
+-- A bid table and a sheet whose accepted amounts are within limits, so that their welfare can be summed (`amounts_summed`).
+use Rattle.std.specs.Prelude.{ℕ, ◌+◌, ◌*◌, ◌≤◌, ◌<◌, ◌≡◌, List, length, get_or, take, drop, ℤ}
+use Rattle.std.proofs.Common.{◌∙◌, arith, mul-le-mul_right, length-take, length-drop, get_or-take, get_or-drop}
 use Rattle.definitions.specs.Limits.{bid_limit, pool_limit, quantity_limit, cell_count, bid_numbers}
-use Rattle.definitions.specs.Book.{book}
+use Rattle.definitions.specs.Book.{Book, book}
 use Rattle.definitions.specs.Sheet.{first_result, amount_cell}
-use Rattle.definitions.specs.Clearing.{welfare}
 use Rattle.definitions.specs.Machine.{cell}
-use Rattle.sums.specs.SummedWelfare.{AmountsFit, summed_welfare, summed_welfare_is}
-use Rattle.theory.specs.SameClearing.{welfare_same}
+use Rattle.sums.specs.SummedWelfare.{OverBids, summed, summed_is}
 
 -- what keeps the sum of the welfare within 64 bits: few bids, and each amount within its limit
 pub record AmountsWithin (n m : ℕ) (bids : List ℤ) (s : List ℕ) : Type 0 where
@@ -34,22 +32,7 @@ module _ (n m : ℕ) (bids : List ℤ) (s : List ℕ) (within : AmountsWithin n 
   part_amount : (i : ℕ) → i < n → get_or part i 0 ≡ cell s (amount_cell n m i)
   part_amount i l = get_or-take k (drop (first_result n m) s) i 0 (omega arith) ∙ get_or-drop (first_result n m) s i 0
 
-  -- what the sum of the welfare asks of its two tables
-  pub part_ready : AmountsFit bids part
-  part_ready = record {
-    few = omega (arith, part_length, within.few_bids);
-    table = omega (arith, part_length, within.table);
-    small = λ i l. let h : i < n = omega (arith, part_length) in omega (arith, part_amount i h, within.amounts i h);
-  }
-
-  -- their welfare is that of the sheet's amounts, whatever the lines carry
-  pub part_welfare : (capacities : List ℤ) → welfare (book (length part) m bids capacities) (λ i. get_or part i 0) ≡ welfare (book n m bids capacities) (λ i. cell s (amount_cell n m i))
-  part_welfare capacities =
-      ap (λ (j : ℕ). welfare (book j m bids capacities) (λ i. get_or part i 0)) part_length
-      ∙ welfare_same (book n m bids capacities) (λ i. get_or part i 0) (λ i. cell s (amount_cell n m i)) part_amount
-
-  -- and the sum gives it
-  pub amounts_welfare : (capacities : List ℤ) → summed_welfare bids part ≡ welfare (book n m bids capacities) (λ i. cell s (amount_cell n m i))
-  amounts_welfare capacities =
-      summed_welfare_is (book (length part) m bids capacities) part refl part_ready.few part_ready.table part_ready.small
-      ∙ part_welfare capacities
+  -- a sum over the bids and these amounts is that of the sheet's amounts, whatever the lines carry
+  pub amounts_summed : {sum : Book → (ℕ → ℕ) → ℤ} → OverBids sum → (capacities : List ℤ) → summed sum bids part ≡ sum (book n m bids capacities) (λ i. cell s (amount_cell n m i))
+  amounts_summed over capacities =
+      summed_is over (book n m bids capacities) within.few_bids within.table part (λ i. cell s (amount_cell n m i)) part_length part_amount within.amounts

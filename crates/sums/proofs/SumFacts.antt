@@ -3,8 +3,9 @@ use Rattle.std.proofs.Common.{ℕ, ◌≡◌, refl, true, false, List, [], ◌�
 use Rattle.definitions.specs.Arithmetic.{sum_to, sum_z, all_to}
 use Rattle.definitions.specs.Clearing.{sold, bought, inflow, outflow, welfare}
 use Rattle.definitions.specs.Examples.{book_two, book_four}
+use Rattle.definitions.specs.RunningSum.{running_sum, sum_of_sales, sales_welfare}
 use Rattle.sums.specs.Pools.{summable, PoolSummed}
-use Rattle.sums.specs.SummedWelfare.{amounts_small, amounts_fit, summed_welfare}
+use Rattle.sums.specs.SummedWelfare.{amounts_small, amounts_fit, summed}
 
 -- ---- tables that fit
 
@@ -44,14 +45,15 @@ no_sums s b i o g = cc (g.sold_is, g.bought_is, g.inflow_is, g.outflow_is)
 
 -- ---- welfare: 5 sold at 10, and 4 and 1 bought at 30
 
--- the amounts; the greatest amount and one more; a bid missing, an amount missing
+-- the amounts, and the sales alone; the greatest amount and one more; a bid missing, an amount missing
 weighed :
-    summed_welfare book_four.bids (5 ∷ 4 ∷ 1 ∷ [])
-    ∷ summed_welfare book_four.bids (65535 ∷ 0 ∷ 0 ∷ [])
-    ∷ summed_welfare book_four.bids (65536 ∷ 0 ∷ 0 ∷ [])
-    ∷ summed_welfare book_two.bids (5 ∷ 4 ∷ 1 ∷ [])
-    ∷ summed_welfare book_four.bids (5 ∷ 4 ∷ [])
+    summed welfare book_four.bids (5 ∷ 4 ∷ 1 ∷ [])
+    ∷ summed sales_welfare book_four.bids (5 ∷ 4 ∷ 1 ∷ [])
+    ∷ summed welfare book_four.bids (65535 ∷ 0 ∷ 0 ∷ [])
+    ∷ summed welfare book_four.bids (65536 ∷ 0 ∷ 0 ∷ [])
+    ∷ summed welfare book_two.bids (5 ∷ 4 ∷ 1 ∷ [])
+    ∷ summed welfare book_four.bids (5 ∷ 4 ∷ [])
     ∷ []
-    ≡ pos 100 ∷ neg_ℤ (pos 655350) ∷ pos 0 ∷ pos 0 ∷ pos 0 ∷ []
-unfolding book_two book_four summed_welfare amounts_fit amounts_small all_to welfare sum_z
+    ≡ pos 100 ∷ neg_ℤ (pos 50) ∷ neg_ℤ (pos 655350) ∷ pos 0 ∷ pos 0 ∷ pos 0 ∷ []
+unfolding book_two book_four summed amounts_fit amounts_small all_to welfare sum_z sales_welfare sum_of_sales running_sum
 weighed = refl

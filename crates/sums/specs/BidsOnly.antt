@@ -1,7 +1,9 @@
--- A book of bids alone: what changes hands in its pools, and its welfare, are those of every book with these bids, whatever its lines carry.
+-- A book of bids alone: what changes hands in its pools, its welfare and that of its sales are those of every book with these bids, whatever its lines
+-- carry.
 use Rattle.std.specs.Prelude.{ℕ, ◌≡◌, List, [], ℤ, refl}
 use Rattle.definitions.specs.Book.{Book, book}
 use Rattle.definitions.specs.Clearing.{sold, bought, inflow, outflow, welfare}
+use Rattle.definitions.specs.RunningSum.{sum_of_sales, sales_welfare}
 
 abbrev pub bids_only : (n m : ℕ) (bids : List ℤ) → Book
 bids_only n m bids = book n m bids []
@@ -26,3 +28,7 @@ module _ (B : Book) (n : ℕ) (count : n ≡ B.n) where
   pub welfare_of : (m : ℕ) (x : ℕ → ℕ) → welfare (bids_only n m B.bids) x ≡ welfare B x
   unfolding welfare
   welfare_of m x = rw count refl
+
+  pub sales_welfare_of : (m : ℕ) (x : ℕ → ℕ) → sales_welfare (bids_only n m B.bids) x ≡ sales_welfare B x
+  unfolding sales_welfare sum_of_sales
+  sales_welfare_of m x = rw count refl

@@ -1,6 +1,7 @@
--- What changes hands in a pool, and welfare as one sum, with its size.
+-- What changes hands in a pool, and welfare summed sales first, with its size.
 pub mod BidsOnly
+pub mod Sides
 pub mod Pools
-pub mod IntegerSum
+pub mod RunningSum
 pub mod Welfare
 pub mod SummedWelfare

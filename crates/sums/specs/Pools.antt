@@ -1,10 +1,9 @@
 -- What changes hands in a pool: the numbers that the code gives (`ChangesHands`), and how it sums them, one side of the bids, a column or a row of
 -- the lines.
-use Rattle.std.specs.Prelude.{ℕ, suc, ◌+◌, ◌*◌, ◌^◌, ◌≤◌, ◌<◌, ◌≡◌, refl, Bool, true, not, ◌&&◌, List, eqb, ltb, leb, length, get_or, ℤ, pos, nat_abs}
+use Rattle.std.specs.Prelude.{ℕ, suc, ◌+◌, ◌*◌, ◌^◌, ◌≤◌, ◌<◌, ◌≡◌, refl, Bool, true, ◌&&◌, List, eqb, ltb, leb, length, get_or, ℤ, pos, nat_abs}
 use Rattle.std.proofs.Common.{ap, arith, ltb-true, leb-true, eqb-true, lt-ltb, le-leb, eq-eqb}
-use Rattle.std.specs.Int.Signed.{lt_z}
-use Rattle.sums.specs.declared.pools.Side.{Side}
-use Rattle.sums.specs.declared.pools.Side.TheVariants.{Sales, Purchases}
+use Rattle.sums.specs.declared.side.Side.{Side}
+use Rattle.sums.specs.declared.side.Side.TheVariants.{Sales, Purchases}
 use Rattle.definitions.specs.Limits.{bid_limit, pool_limit, bid_numbers}
 use Rattle.definitions.specs.Arithmetic.{on, sum_to, eq_z}
 use Rattle.definitions.specs.Book.{Book, pool, quantity}
@@ -13,6 +12,7 @@ use Rattle.definitions.specs.Clearing.{Clearing, sold, bought, inflow, outflow}
 use Rattle.laws.specs.Sum.{sum_ext}
 use Rattle.std.specs.Cmp.{first_so, second_so}
 use Rattle.sums.specs.BidsOnly.{bids_only}
+use Rattle.sums.specs.Sides.{on_side}
 
 -- ---- tables that fit
 
@@ -69,12 +69,7 @@ PoolSummed m p bids amounts flows =
 
 -- ---- how it sums them
 
--- a bid of this quantity is on the side asked for
-abbrev pub on_side : Side → (quantity : ℤ) → Bool
-on_side Sales quantity = not (lt_z (pos 0) quantity)
-on_side Purchases quantity = lt_z (pos 0) quantity
-
--- and its pool has this number
+-- a bid of this quantity is on the side asked for, and its pool has this number
 abbrev pub stands : Side → (number pool quantity : ℤ) → Bool
 stands side number pool quantity = on_side side quantity && eq_z pool number
 

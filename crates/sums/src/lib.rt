@@ -6,15 +6,19 @@
 
 ghost use Rattle.std.specs.Prelude.{◌≡◌, ◌<◌, true, map, length, nat_abs};
 ghost use Rattle.definitions.specs.Checks.{clearing_of};
+ghost use Rattle.definitions.specs.Clearing as clearing;
+ghost use Rattle.definitions.specs.RunningSum.{sales_welfare};
 ghost use Rattle.sums.specs.BidsOnly.{bids_only};
 ghost use Rattle.sums.specs.Pools.{TablesFit, ChangesHands, PoolSummed};
-ghost use Rattle.sums.specs.SummedWelfare.{summed_welfare};
+ghost use Rattle.sums.specs.SummedWelfare.{summed};
 
-use crate::pools::{Side, carried, is_summable, side_in};
+use crate::pools::{carried, is_summable, side_in};
+use crate::side::Side;
 use crate::values::{do_amounts_fit, sum_values, write_sizes};
 use definitions::Limits;
 
 mod pools;
+mod side;
 mod values;
 
 // What changes hands in a pool: accepted sales and purchases, inflow and outflow.
@@ -50,20 +54,28 @@ pub fn pool_sums(m: usize, p: usize, bids: &[i32], amounts: &[i32], flows: &[i32
     fitting_sums(m, p, bids, amounts, flows)
 }
 
-// The welfare of accepted amounts by formula (1) of document 003. Three functions promise this sum: `sum_values` where the amounts fit, this one for all,
-// `welfare_sent` of signed numbers.
-pub fn welfare(bids: &[i32], accepted: &[u32]) -> i64
-    ensures { result ≡ summed_welfare bids.now accepted.now }
+// The welfare of accepted amounts, summed sales first: that of the sales alone, which is the running sum after the last sale, and the whole by formula
+// (1) of document 003, at which the sum ends.
+#[derive(Clone, Copy, Default)]
+pub struct WelfareSums {
+    pub sales: i64,
+    pub whole: i64,
+}
+
+// Sums the welfare. Three functions promise this sum: `sum_values` where the amounts fit, this one for all, `welfare_sent` of signed numbers.
+pub fn welfare(bids: &[i32], accepted: &[u32]) -> WelfareSums
+    ensures sales { result.sales ≡ summed sales_welfare bids.now accepted.now }
+    ensures whole { result.whole ≡ summed clearing.welfare bids.now accepted.now }
 {
     if !do_amounts_fit(bids, accepted) {
-        return 0;
+        return WelfareSums::default();
     }
     sum_values(bids, accepted)
 }
 
 // The welfare of amounts sent as signed numbers, each by its size.
 pub fn welfare_sent(bids: &[i32], amounts: &[i32]) -> i64
-    ensures { result ≡ summed_welfare bids.now (map nat_abs amounts.now) }
+    ensures { result ≡ summed clearing.welfare bids.now (map nat_abs amounts.now) }
 {
     let count = amounts.len();
     if Limits::BIDS < count {
@@ -73,5 +85,5 @@ pub fn welfare_sent(bids: &[i32], amounts: &[i32]) -> i64
     let mut room = [0; Limits::BIDS];
     let sizes = &mut room[..count];
     write_sizes(amounts, sizes);
-    welfare(bids, sizes)
+    welfare(bids, sizes).whole
 }

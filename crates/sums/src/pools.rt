@@ -4,28 +4,10 @@
 ghost use Rattle.std.specs.Prelude.{◌≡◌, ℕ, ◌+◌, ◌*◌, ◌<◌, ◌≤◌, length, get_or, pos, nat_abs};
 ghost use Rattle.definitions.specs.Limits.{bid_limit, pool_limit, bid_numbers};
 ghost use Rattle.definitions.specs.Arithmetic.{on, sum_to};
-ghost use Rattle.sums.specs.Pools.{summable, on_side, stands, side_in, sum_limit};
+ghost use Rattle.sums.specs.Pools.{summable, stands, side_in, sum_limit};
 
+use crate::side::Side;
 use definitions::Limits;
-
-// A side of the exchange.
-#[derive(Clone, Copy)]
-pub enum Side {
-    Sales,
-    Purchases,
-}
-
-impl Side {
-    // A bid of this quantity is on this side: a withdrawn bid is a sale.
-    fn has(self, quantity: i32) -> bool
-        ensures { result ≡ on_side self quantity }
-    {
-        match self {
-            Side::Sales => quantity <= 0,
-            Side::Purchases => 0 < quantity,
-        }
-    }
-}
 
 // Pool p of m, and tables of the lengths that go with so many amounts and with m pools.
 #[tactic(auto, unfolding(crate::specs::Pools::summable))]

@@ -1,18 +1,28 @@
-// The welfare of accepted amounts: whether it can be summed, and its sum bid by bid; the sizes of amounts sent as signed numbers.
-ghost use Rattle.std.specs.Prelude.{◌≡◌, map, ◌≤◌, length, nat_abs};
-ghost use Rattle.definitions.specs.Limits.{quantity_limit};
-ghost use Rattle.sums.specs.Welfare.{signed_value};
-ghost use Rattle.sums.specs.SummedWelfare.{AmountsFit, amounts_small, amounts_fit, summed_welfare};
+// The welfare of accepted amounts: whether it can be summed, and its sum, sales first; the sizes of amounts sent as signed numbers.
+ghost use Rattle.std.specs.Prelude.{◌≡◌, map, ◌+◌, ◌*◌, ◌≤◌, length, nat_abs};
+ghost use Rattle.definitions.specs.Limits.{bid_limit, quantity_limit};
+ghost use Rattle.definitions.specs.Clearing as clearing;
+ghost use Rattle.definitions.specs.RunningSum.{running_sum, sales_welfare};
+ghost use Rattle.sums.specs.Sides.{side_part, part_of_bid, value_limit};
+ghost use Rattle.sums.specs.SummedWelfare.{AmountsFit, amounts_small, amounts_fit, summed};
 
+use crate::WelfareSums;
+use crate::side::Side;
 use definitions::Limits;
 
-// Price × accepted of one bid: added for a purchase, taken off for a sale.
-fn signed_value(price: i32, quantity: i32, accepted: u32) -> i64
+// What one bid adds to the sum of a side, 0 if it is on the other: price × accepted, which is taken off for a sale.
+fn part_of(side: Side, price: i32, quantity: i32, accepted: u32) -> i64
     requires { accepted ≤ quantity_limit }
-    ensures { result ≡ signed_value price quantity accepted }
+    ensures { result ≡ side_part side price quantity accepted }
 {
+    if !side.has(quantity) {
+        return 0;
+    }
     let value = price as i64 * accepted as i64;
-    if 0 < quantity { value } else { -value }
+    match side {
+        Side::Sales => -value,
+        Side::Purchases => value,
+    }
 }
 
 // No amount is above the limit on a bid's size.
@@ -32,18 +42,32 @@ pub fn do_amounts_fit(bids: &[i32], accepted: &[u32]) -> bool
         && are_small(accepted)
 }
 
-// The sum, bid by bid, in a `for`: a sum of signed numbers may leave its limits on the way, and the invariant says that this one does not.
-pub fn sum_values(table: &[i32], accepted: &[u32]) -> i64
-    requires { AmountsFit table.now accepted.now }
-    ensures { result ≡ summed_welfare table.now accepted.now }
+// Goes on with the running sum: adds the bids of one side, by bid number. After each turn the total is the running sum of document 02, which is
+// the invariant; in a `for`, since a sum of signed numbers may leave its limits on the way, and the invariant says that this one does not.
+fn add_side(side: Side, table: &[i32], accepted: &[u32], start: i64) -> i64
+    requires fit { AmountsFit table.now accepted.now }
+    requires start_small { nat_abs start ≤ bid_limit * value_limit }
+    ensures sum { result ≡ running_sum start (part_of_bid side table.now accepted.now) (length accepted.now) }
+    ensures small { nat_abs result ≤ nat_abs start + bid_limit * value_limit }
 {
     let (bids, _) = table.as_chunks::<{ Limits::BID_NUMBERS }>();
-    let mut total = 0;
+    let mut total = start;
     for (i, &[_, price, quantity]) in bids.iter().enumerate() {
-        let value = signed_value(price, quantity, accepted[i]);
-        total += value;
+        let part = part_of(side, price, quantity, accepted[i]);
+        total += part;
     }
     total
+}
+
+// Sums all sales, then all purchases, each by bid number.
+pub fn sum_values(table: &[i32], accepted: &[u32]) -> WelfareSums
+    requires { AmountsFit table.now accepted.now }
+    ensures sales { result.sales ≡ summed sales_welfare table.now accepted.now }
+    ensures whole { result.whole ≡ summed clearing.welfare table.now accepted.now }
+{
+    let sales = add_side(Side::Sales, table, accepted, 0);
+    let whole = add_side(Side::Purchases, table, accepted, sales);
+    WelfareSums { sales, whole }
 }
 
 // Writes the sizes of numbers. Sealing has this loop for residues; one that is given the function would say more in its contract than both loops do.

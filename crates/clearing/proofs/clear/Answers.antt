@@ -1,17 +1,16 @@
 -- `clear` meets its contract: what sealing says decides, and the plan runs from the sealed sheet.
-use Rattle.std.proofs.Common.{ℕ, ◌≡◌, sym, ap₂, ◌∙◌, false, length, w64}
+use Rattle.std.proofs.Common.{ℕ, ◌≡◌, sym, ap₂, ◌∙◌, false, rules, length, w64, to_z-of_z}
 use Rattle.std.proofs.lemmas.Result.{err_from_is_err_and}
 use Rattle.definitions.specs.Answers.{is_none}
 use Rattle.definitions.specs.Book.{Book, book_of}
 use Rattle.definitions.specs.Calls.{seal_refusal}
 use Rattle.definitions.specs.Outcome.{plan_run}
 use Rattle.definitions.specs.Plan.{total}
-use Rattle.laws.specs.SignedTests.{back}
 use Rattle.laws.specs.Search.{turned_away}
 use Rattle.plan.specs.Plan.{plan}
 use Rattle.plan.proofs.Asking.{total_accepted}
 use Rattle.orders.specs.Runs.{stepped_plan}
-use Rattle.clearing.proofs.Sealing.{refused_count, refused_welfare, refused_sheet, counts_pass, count_given, welfare_given, sheet_given, amounts_within_lem, run_left}
+use Rattle.clearing.proofs.Sealing.{refused_count, refused_welfare, refused_sales, refused_sheet, counts_pass, count_given, welfare_given, sales_given, sheet_given, amounts_within_lem, run_left}
 use Rattle.clearing.proofs.clear.Goals as goal
 use Rattle.clearing.proofs.clear.Goals.{After-from_residual, After-run_plan}
 
@@ -30,6 +29,11 @@ returns-in_err-counts-clause-welfare c =
     let p = err_from_is_err_and c.from_residual.result c.from_residual.ensures.1 in
     rw p.1 (refused_welfare (book_of c.args.book.now) c.args.sheet.now (refused c))
 
+pub returns-in_err-counts-clause-sales_welfare : goal.returns-in_err-counts-clause-sales_welfare
+returns-in_err-counts-clause-sales_welfare c =
+    let p = err_from_is_err_and c.from_residual.result c.from_residual.ensures.1 in
+    rw p.1 (refused_sales (book_of c.args.book.now) c.args.sheet.now (refused c))
+
 pub returns-in_err-counts-clause-cells : goal.returns-in_err-counts-clause-cells
 returns-in_err-counts-clause-cells c = c.seal.ensures.cells ∙ refused_sheet (book_of c.args.book.now) c.args.sheet.now (refused c)
 
@@ -42,11 +46,11 @@ ran c =
     run_left (book_of c.args.book.now) c.args.sheet.now (sym c.in_ok-counts.ensures.refusal) _ _ c.seal.ensures.cells
     (c.run_plan.ensures.cells ∙ ap₂ (λ (n : ℕ) (m : ℕ). stepped_plan plan n m c.seal.new.sheet) same.0 same.1)
 
-pub welfare_of-welfare-requires : goal.welfare_of-welfare-requires
-welfare_of-welfare-requires c =
+pub welfare_of-sums-requires : goal.welfare_of-sums-requires
+welfare_of-sums-requires c =
     let B : Book = book_of c.args.book.now in
     let same = c.in_ok-counts.ensures.counts in
-    let run = (goal.at.welfare_of-welfare-requires c).After-run_plan in
+    let run = (goal.at.welfare_of-sums-requires c).After-run_plan in
     rw (same.0, same.1, ran run) (amounts_within_lem B c.args.sheet.now (sym c.in_ok-counts.ensures.refusal))
 
 pub returns-clause-orders : goal.returns-clause-orders
@@ -64,9 +68,18 @@ returns-clause-welfare c =
     let B : Book = book_of c.args.book.now in
     let same = c.in_ok-counts.ensures.counts in
     let run = (goal.at.returns-clause-welfare c).After-run_plan in
-    back w64 _ c.welfare_of-welfare.type_inv
-    ∙ c.welfare_of-welfare.ensures B.capacities
+    to_z-of_z {w = w64} (search rules)
+    ∙ c.welfare_of-sums.ensures.whole B.capacities
     ∙ rw (same.0, same.1, ran run) (welfare_given B c.args.sheet.now (sym c.in_ok-counts.ensures.refusal))
+
+pub returns-clause-sales_welfare : goal.returns-clause-sales_welfare
+returns-clause-sales_welfare c =
+    let B : Book = book_of c.args.book.now in
+    let same = c.in_ok-counts.ensures.counts in
+    let run = (goal.at.returns-clause-sales_welfare c).After-run_plan in
+    to_z-of_z {w = w64} (search rules)
+    ∙ c.welfare_of-sums.ensures.sales B.capacities
+    ∙ rw (same.0, same.1, ran run) (sales_given B c.args.sheet.now (sym c.in_ok-counts.ensures.refusal))
 
 pub returns-clause-cells : goal.returns-clause-cells
 returns-clause-cells c =

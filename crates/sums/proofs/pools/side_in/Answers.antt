@@ -8,7 +8,7 @@ use Rattle.laws.specs.IntegerSize.{fits_size, size_fits}
 use Rattle.laws.specs.SignedTests.{back}
 use Rattle.laws.specs.BidTable.{pool_read, quantity_read}
 use Rattle.laws.specs.Tests.{on_le}
-use Rattle.sums.specs.declared.pools.Side.{Side}
+use Rattle.sums.specs.declared.side.Side.{Side}
 use Rattle.sums.specs.Pools.{stands, added_by, side_in}
 use Rattle.sums.proofs.Summing.{summing_begins, summing_turn}
 use Rattle.sums.proofs.pools.side_in.Goals as goal

@@ -1,76 +1,39 @@
--- `sum_values` meets its contract: each turn adds one bid's signed value, which is bounded by its amount's limit and by the 32 bits of its price.
-use Rattle.std.proofs.Common.{ℕ, ◌+◌, ◌*◌, ◌^◌, ◌≤◌, ◌≡◌, refl, sym, ap, ap₂, ◌∙◌, subst, arith, ℤ, pos, nat_abs, ◌+ℤ◌, length, get_or, w32, w64, SFits, to_z, of_z, to_z-of_z}
-use borrow.Author.Rules.{sfits_of}
-use Rattle.definitions.specs.Limits.{bid_numbers, price_place, quantity_place}
-use Rattle.definitions.specs.Arithmetic.{sum_z}
+-- `sum_values` meets its contract: the two running sums are those of the definitions, and the second ends at formula (1).
+use Rattle.std.proofs.Common.{ℕ, ◌≡◌, refl, sym, ap, ◌∙◌, ℤ, length, get_or, w64, to_z, of_z}
+use Rattle.definitions.specs.Book.{Book}
+use Rattle.definitions.specs.RunningSum.{running_sum, purchase_part, sum_of_sales, sales_welfare, sum_with_purchases, end_figure}
 use Rattle.laws.specs.SignedTests.{back}
-use Rattle.laws.specs.BidTable.{number, number_at, price_read, quantity_read}
-use Rattle.laws.specs.IntegerSize.{fits_size, size_fits, size_add}
 use Rattle.sums.specs.BidsOnly.{bids_only}
-use Rattle.sums.specs.IntegerSum.{sum_z_none, sum_z_next}
-use Rattle.sums.specs.Welfare.{signed_value, welfare_by_bid, value_size}
-use Rattle.sums.specs.SummedWelfare.{summed_welfare_is, value_added, value_limit}
+use Rattle.sums.specs.SummedWelfare.{OverBids, summed, summed_is, welfare_over_bids, sales_over_bids}
+use Rattle.sums.specs.Welfare.{end_figure_is}
 use Rattle.sums.proofs.values.sum_values.Goals as goal
-use Rattle.sums.proofs.values.sum_values.Goals.{After-signed_value-value}
+use Rattle.sums.proofs.values.sum_values.Goals.{After-add_side-whole}
 
-pub loop-i-init : goal.loop-i-init
-loop-i-init c =
-    let none = sum_z_none (value_added c.args.table.now c.args.accepted.now) in
-    record { sum = sym none; small = omega (arith, ap nat_abs none) }
+-- the bids as a book, and the amounts
+abbrev bids_of : After-add_side-whole → Book
+bids_of c = bids_only (length c.args.accepted.now) 0 c.args.table.now
 
--- the sum of one bid more
-abbrev sum_after : After-signed_value-value → ℤ
-sum_after c = sum_z (c.loop-i.i + 1) (value_added c.args.table.now c.args.accepted.now)
+abbrev amounts_of : After-add_side-whole → ℕ → ℕ
+amounts_of c i = get_or c.args.accepted.now i 0
 
-onward : (c : After-signed_value-value) → to_z w64 c.loop-i.total-bits +ℤ to_z w64 (of_z w64 c.signed_value-value.result) ≡ sum_after c
-onward c =
-    let l = c.loop-i in
-    let front = c.as_chunks.ensures in
-    let table = c.args.table.now in
-    let accepted = c.args.accepted.now in
-    ap₂ ◌+ℤ◌ l.invariant.sum
-    (back w64 c.signed_value-value.result c.signed_value-value.type_inv
-    ∙ c.signed_value-value.ensures
-    ∙ ap₂ (λ (p : ℤ) (q : ℤ). signed_value p q (get_or accepted l.i 0))
-    (price_read table front.front front.front_len l.i c.loop-i-test.true c.price-1.given)
-    (quantity_read table front.front front.front_len l.i c.loop-i-test.true c.quantity-1.given))
-    ∙ sym (sum_z_next l.i (value_added table accepted))
+-- they can be summed
+is_summed : (c : After-add_side-whole) → {sum : Book → (ℕ → ℕ) → ℤ} → OverBids sum → summed sum c.args.table.now c.args.accepted.now ≡ sum (bids_of c) (amounts_of c)
+is_summed c over = summed_is over (bids_of c) c.requires.few c.requires.table c.args.accepted.now (amounts_of c) refl (λ i l. refl) c.requires.small
 
--- its size
-onward_size : (c : After-signed_value-value) → nat_abs (sum_after c) ≤ (c.loop-i.i + 1) * value_limit
-onward_size c =
-    let l = c.loop-i in
-    let table = c.args.table.now in
-    let front = c.as_chunks.ensures in
-    let f = value_added table c.args.accepted.now in
-    let price : ℤ = get_or table (bid_numbers * l.i + price_place) (pos 0) in
-    let quantity : ℤ = get_or table (bid_numbers * l.i + quantity_place) (pos 0) in
-    let price_small : nat_abs price ≤ 2 ^ 31 =
-    subst (λ (z : ℤ). nat_abs z ≤ 2 ^ 31) (number_at table front.front front.front_len l.i c.loop-i-test.true price_place (omega arith))
-    (size_fits w32 (number c.as_chunks.result.0.now l.i price_place) (sfits_of c.price-1.given)) in
-    omega (
-      arith,
-      ap nat_abs (sum_z_next l.i f),
-      l.invariant.small,
-      size_add (sum_z l.i f) (f l.i),
-      value_size (2 ^ 31) price quantity (get_or c.args.accepted.now l.i 0) price_small (c.requires.small l.i (omega arith)),
-    )
+-- the sum after the last sale
+after_sales : (c : After-add_side-whole) → to_z w64 (of_z w64 c.add_side-sales.result) ≡ sales_welfare (bids_of c) (amounts_of c)
+unfolding sales_welfare sum_of_sales
+after_sales c = back w64 _ c.add_side-sales.type_inv ∙ c.add_side-sales.ensures.sum
 
-fitting : (c : After-signed_value-value) → SFits w64 (sum_after c)
-fitting c = fits_size w64 _ (omega (arith, onward_size c, c.requires.few, c.loop-i-test.true))
+pub returns-clause-sales : goal.returns-clause-sales
+returns-clause-sales c = after_sales c ∙ sym (is_summed c sales_over_bids)
 
-pub overflow_add-total : goal.overflow_add-total
-overflow_add-total c = subst (SFits w64) (sym (onward c)) (fitting c)
-
-pub loop-i-preserved : goal.loop-i-preserved
-loop-i-preserved c = record { sum = ap (λ (z : ℤ). to_z w64 (of_z w64 z)) (onward c) ∙ to_z-of_z (fitting c); small = onward_size c }
-
-pub returns : goal.returns
-returns c =
-    let table = c.args.table.now in
-    let accepted = c.args.accepted.now in
-    let B = bids_only (length accepted) 0 table in
-    let e : c.loop-i.i ≡ length accepted = omega arith in
-    c.loop-i.invariant.sum
-    ∙ ap (λ (k : ℕ). sum_z k (value_added table accepted)) e
-    ∙ sym (summed_welfare_is B accepted refl c.requires.few c.requires.table c.requires.small ∙ welfare_by_bid B (λ i. get_or accepted i 0))
+pub returns-clause-whole : goal.returns-clause-whole
+unfolding end_figure sum_with_purchases
+returns-clause-whole c =
+    let B = bids_of c in
+    back w64 _ c.add_side-whole.type_inv
+    ∙ c.add_side-whole.ensures.sum
+    ∙ ap (λ (start : ℤ). running_sum start (purchase_part B (amounts_of c)) B.n) (after_sales c)
+    ∙ end_figure_is B (amounts_of c)
+    ∙ sym (is_summed c welfare_over_bids)
