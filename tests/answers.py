@@ -175,8 +175,9 @@ def clear(plans, words):
         flows = orders.flows(n, m, cells)
         accepted, prices = solver.clear(n, m, *tables)
         assert cells == orders.cleared(*tables, accepted, flows, prices) and not solver.faults(n, m, *tables, accepted, flows), (n, m, tables)
-        return [line("orders", [len(found)]), line("welfare", [solver.welfare(tables[0], accepted)]), line("sheet", cells)]
-    return answered(made, ["orders", "welfare"], [("sheet", sheet)])
+        figures = [line("welfare", [solver.welfare(tables[0], accepted)]), line("sales", [solver.sales_welfare(tables[0], accepted)])]
+        return [line("orders", [len(found)]), *figures, line("sheet", cells)]
+    return answered(made, ["orders", "welfare", "sales"], [("sheet", sheet)])
 
 
 def run(plans, words):

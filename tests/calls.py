@@ -217,7 +217,7 @@ CALLS = {
     1: (bid, {0, 2, 4, 5, 6}),
     2: (lambda draw, plans, faults: book(2, draw, faults), set(range(9))),
     3: (opened, {0, 1, 2, 3, 15}),
-    4: (lambda draw, plans, faults: book(4, draw, faults), set(range(9))),
+    4: (lambda draw, plans, faults: book(4, draw, faults), {"sales below 0", "sales 0", "sales above 0", *range(1, 9)}),
     5: (run, {0, 3, 9, 10, 11, 12, 15}),
     6: (ask, {0, 1, 2, 13}),
     7: (total, {0, 1, 2}),
@@ -236,11 +236,15 @@ def drawn(draw, plans, count):
 
 
 def outcome(output):
-    """0 for accepted, or the yes or no that is said then; the refusal's number; None for unreadable."""
-    first, second, *_ = output.split("\n")
+    """0 for accepted, or what is said then: yes or no, the sign of the sales' welfare; the refusal's number; None for unreadable."""
+    first, *lines = output.split("\n")
     if first.startswith("refused"):
         return int(first.split(" ")[1])
-    return None if first == "unreadable" else second if second.startswith("yes") else 0
+    if first == "unreadable":
+        return None
+    for name, number in (line.split(" ") for line in lines if line.startswith(("yes ", "sales "))):
+        return f"yes {number}" if name == "yes" else "sales 0" if number == "0" else f"sales {'below' if number[0] == '-' else 'above'} 0"
+    return 0
 
 
 def stored():

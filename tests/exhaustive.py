@@ -1,6 +1,7 @@
 """Tries every clearing of small books, and holds tests/solver.py to document 01's own words: greatest used amounts in
-dictionary order along the merit order, and greatest welfare; and to its examples. A further clearing of each book, right or wrong, is held to
-request 2 of document 02: feasible, and none has greater welfare. One command: python3 tests/exhaustive.py [BOOKS] [SEED]"""
+dictionary order along the merit order, and greatest welfare; and to its examples. The welfare is held to request 3 of document 02, summed sales
+first, and a further clearing of each book, right or wrong, to request 2: feasible, and none has greater welfare.
+One command: python3 tests/exhaustive.py [BOOKS] [SEED]"""
 import itertools
 
 import arguments
@@ -37,6 +38,13 @@ def welfare(bids, accepted):
     """The sum of price x accepted over purchases less that over sales."""
     purchases = sum(price * x for (_, price, quantity), x in zip(bids, accepted) if quantity > 0)
     return purchases - sum(price * x for (_, price, quantity), x in zip(bids, accepted) if quantity <= 0)
+
+
+def running_sums(bids, accepted):
+    """The sums before and after each sale and then after each purchase, by bid number; and how many sales there are."""
+    sales = [-price * x for (_, price, quantity), x in zip(bids, accepted) if quantity <= 0]
+    purchases = [price * x for (_, price, quantity), x in zip(bids, accepted) if quantity > 0]
+    return list(itertools.accumulate(sales + purchases, initial=0)), len(sales)
 
 
 def highest(m, bids, accepted):
@@ -120,6 +128,8 @@ def main():
         assert accepted == merited and prices == highest(m, bids, merited), (n, m, bids, capacities, accepted, prices, merited)
         assert solver.welfare(bids, accepted) == welfare(bids, accepted) == most, (n, m, bids, capacities, most)
         assert feasible(n, m, bids, capacities, accepted, solver.flows_of(n, m, bids, capacities, accepted)), (n, m, bids, capacities, accepted)
+        sums, sales = running_sums(bids, accepted)
+        assert sums[sales] == solver.sales_welfare(bids, accepted) and sums[-1] == most, (bids, accepted, sums, most)
         traded += any(accepted)
         amounts, flows = clearings.drawn(draw, (n, m, bids, capacities))
         yes = feasible(n, m, bids, capacities, amounts, flows) and welfare(bids, amounts) == most

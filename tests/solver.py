@@ -114,6 +114,15 @@ def welfare(bids, accepted):
     return sum(price * x if q > 0 else -price * x for (_, price, q), x in zip(bids, accepted))
 
 
+def sales_welfare(bids, accepted):
+    """What the sales alone take, as it counts in the welfare: the running sum after the last sale, if all sales are summed first."""
+    total = 0
+    for (_, price, q), x in zip(bids, accepted):
+        if q <= 0:
+            total -= price * x
+    return total
+
+
 def flows_of(n, m, bids, capacities, accepted):
     """Some flows with which accepted amounts are feasible, no pair of pools shipping both ways; None if there are none."""
     source, sink = m, m + 1

@@ -153,7 +153,12 @@ fn call_clear(rt: &impl Print, input: &[u8]) -> Result<(), Failure> {
     call_on_book(rt, input, |book, sheet| {
         let cleared = clear(book, sheet);
         print_counted(rt, cleared.map(|cleared| cleared.orders))?;
-        print_number(rt, b"welfare", cleared.map_or(0, |cleared| cleared.welfare))
+        print_number(rt, b"welfare", cleared.map_or(0, |cleared| cleared.welfare))?;
+        print_number(
+            rt,
+            b"sales",
+            cleared.map_or(0, |cleared| cleared.sales_welfare),
+        )
     })
 }
 
