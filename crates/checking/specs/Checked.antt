@@ -17,7 +17,7 @@ use Rattle.laws.specs.SignedTests.{eq_z_true, eq_z_refl}
 use Rattle.std.specs.Cmp.{first_so, second_so}
 use Rattle.theory.specs.FeasibleNumbers.{numbers_feasible, feasible_numbers_lem, same_amounts}
 use Rattle.theory.specs.Optimal.{optimal_by_welfare, welfare_of_optimal}
-use Rattle.theory.specs.SameClearing.{welfare_same}
+use Rattle.laws.specs.SameAmounts.{welfare_same}
 use Rattle.sums.specs.SummedWelfare.{summed, summed_is, welfare_over_bids}
 use Rattle.feasible.specs.Tests.{sent_sizes}
 use Rattle.plan.specs.Plan.{plan}

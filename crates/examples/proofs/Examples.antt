@@ -11,7 +11,7 @@ use Rattle.laws.specs.Extremes.{min_to}
 use Rattle.laws.specs.AcceptedBook.{bids_of, book_of}
 use Rattle.theory.specs.Subsets.{member}
 use Rattle.theory.specs.ClosedForms.{subset_sum, demand, cut, size_before, size_with, rank, used_amount, accepted_amount}
-use Rattle.theory.specs.SameClearing.{welfare_same}
+use Rattle.laws.specs.SameAmounts.{welfare_same}
 use Rattle.theory.specs.PoolPrice.{pool_price_same}
 use Rattle.theory.proofs.ClosedBest.{closed_accepted}
 use Rattle.theory.specs.BestClearing.{best_exists}

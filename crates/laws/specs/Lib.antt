@@ -7,6 +7,8 @@ pub mod Extremes
 pub mod SignedTests
 pub mod BidTable
 pub mod IntegerSize
+pub mod RunningSum
+pub mod SameAmounts
 pub mod Write
 pub mod Chunks
 pub mod Refusal

@@ -2,7 +2,6 @@
 use Rattle.std.specs.Prelude.{◌≡◌, refl, Bool, ◌≢◌, ◌⊎◌, ℕ, zero, suc, ◌+◌, ◌*◌, ◌-◌, ◌≤◌, ◌<◌, eqb, ℤ, ◌+ℤ◌}
 use Rattle.std.proofs.Common.{sym, ap, ap₂, subst, inl, inr, arith, eq-or-lt_of_le, add-zero, add-suc, add-one}
 use Rattle.definitions.specs.Arithmetic.{on, sum_to, sum_z}
-use Rattle.definitions.specs.RunningSum.{running_sum}
 use Rattle.laws.specs.Tests.{Eq?, same, diff, eq?}
 
 pub sum_none : (f : ℕ → ℕ) → sum_to 0 f ≡ 0
@@ -25,11 +24,6 @@ pub sum_z_ext : (n : ℕ) (f h : ℕ → ℤ) → ((i : ℕ) → i < n → f i �
 unfolding sum_z
 sum_z_ext zero f h e = refl
 sum_z_ext (suc n) f h e = ap₂ ◌+ℤ◌ (sum_z_ext n f h (λ i l. e i (omega arith))) (e n (omega arith))
-
-pub running_sum_ext : (start : ℤ) (n : ℕ) (f h : ℕ → ℤ) → ((i : ℕ) → i < n → f i ≡ h i) → running_sum start f n ≡ running_sum start h n
-unfolding running_sum
-running_sum_ext start zero f h e = refl
-running_sum_ext start (suc n) f h e = ap₂ ◌+ℤ◌ (running_sum_ext start n f h (λ i l. e i (omega arith))) (e n (omega arith))
 
 pub sum_le : (n : ℕ) (f h : ℕ → ℕ) → ((i : ℕ) → i < n → f i ≤ h i) → sum_to n f ≤ sum_to n h
 unfolding sum_to

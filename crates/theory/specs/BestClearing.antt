@@ -6,10 +6,11 @@ use Rattle.definitions.specs.Clearing.{Clearing, Feasible, Best, Permitted, befo
 use Rattle.definitions.specs.Calls.{AcceptedBook}
 use Rattle.definitions.specs.RunningSum.{sales_welfare}
 use Rattle.laws.specs.AcceptedBook.{accepted_sound}
+use Rattle.laws.specs.SameAmounts.{welfare_same, sales_welfare_same}
 use Rattle.theory.specs.StrictOrder.{StrictTotal}
 use Rattle.theory.specs.BookNetwork.{before_strict_total}
 use Rattle.theory.specs.Dictionary.{no_greater_antisymmetric}
-use Rattle.theory.specs.SameClearing.{accepted_by_used, welfare_same, sales_welfare_same}
+use Rattle.theory.specs.SameClearing.{accepted_by_used}
 use Rattle.theory.specs.CutClearing.{cut_clearing, cut_best, cut_permitted, cut_welfare}
 
 -- the merit order is a strict total order on the bids

@@ -1,12 +1,10 @@
--- Only the amounts of the book's bids and the flows of its lines count: clearings that share them are feasible, best, permitted together, with the same welfare,
--- and the same welfare of their sales.
-use Rattle.std.specs.Prelude.{◌≡◌, Bool, true, false, not, ◌&&◌, cond, ℕ, ◌-◌, ◌≤◌, ◌<◌, ℤ, pos, neg_ℤ, ◌-ℤ◌, ◌*ℤ◌}
-use Rattle.std.proofs.Common.{sym, ap, ap₂, ◌∙◌, arith}
+-- Only the amounts of the book's bids and the flows of its lines count: clearings that share them are feasible, best, permitted together.
+use Rattle.std.specs.Prelude.{◌≡◌, Bool, true, false, not, ◌&&◌, cond, ℕ, ◌-◌, ◌≤◌, ◌<◌}
+use Rattle.std.proofs.Common.{sym, ap, ◌∙◌, arith}
 use Rattle.definitions.specs.Arithmetic.{on}
-use Rattle.definitions.specs.Book.{Book, price, purchase, sale, size, in_pool}
-use Rattle.definitions.specs.Clearing.{Clearing, Feasible, sold, bought, inflow, outflow, used, welfare, NoGreater, equal, less, Best, Permitted}
-use Rattle.definitions.specs.RunningSum.{sale_part, sum_of_sales, sales_welfare}
-use Rattle.laws.specs.Sum.{sum_ext, sum_z_ext, running_sum_ext}
+use Rattle.definitions.specs.Book.{Book, purchase, sale, size, in_pool}
+use Rattle.definitions.specs.Clearing.{Clearing, Feasible, sold, bought, inflow, outflow, used, NoGreater, equal, less, Best, Permitted}
+use Rattle.laws.specs.Sum.{sum_ext}
 use Rattle.theory.specs.FlowOrder as rows
 use Rattle.theory.specs.FlowOrder.{NoLaterFlows, FirstFlows}
 
@@ -81,15 +79,3 @@ module _ (B : Book) (c d : Clearing) (amounts : (i : ℕ) → i < B.n → c.acce
     feasible = feasible_same_clearing h.feasible;
     first = λ e k q. no_later_same e.flow (h.first e k (λ i l. q i l ∙ sym (amounts i l)));
   }
-
-pub welfare_same : (B : Book) (a c : ℕ → ℕ) → ((i : ℕ) → i < B.n → a i ≡ c i) → welfare B a ≡ welfare B c
-unfolding welfare
-welfare_same B a c e =
-    ap₂ (λ (x y : ℤ). x -ℤ y)
-    (sum_z_ext B.n _ _ (λ i l. ap (λ (z : ℕ). cond (purchase B i) (price B i *ℤ pos z) (pos 0)) (e i l)))
-    (sum_z_ext B.n _ _ (λ i l. ap (λ (z : ℕ). cond (sale B i) (price B i *ℤ pos z) (pos 0)) (e i l)))
-
-pub sales_welfare_same : (B : Book) (a c : ℕ → ℕ) → ((i : ℕ) → i < B.n → a i ≡ c i) → sales_welfare B a ≡ sales_welfare B c
-unfolding sales_welfare sum_of_sales
-sales_welfare_same B a c e =
-    running_sum_ext (pos 0) B.n (sale_part B a) (sale_part B c) (λ i l. ap (λ (z : ℕ). cond (sale B i) (neg_ℤ (price B i *ℤ pos z)) (pos 0)) (e i l))
