@@ -2,6 +2,5 @@
 pub mod BidsOnly
 pub mod Sides
 pub mod Pools
-pub mod RunningSum
 pub mod Welfare
 pub mod SummedWelfare

@@ -1,11 +1,12 @@
--- The two sides of the exchange: which bids are on each, and what a bid adds to the running sum of the welfare, as the code adds it.
-use Rattle.std.specs.Prelude.{ℕ, ◌*◌, ◌^◌, ◌≤◌, ◌≡◌, refl, Bool, true, false, not, cond, List, length, get_or, ℤ, pos, neg_ℤ, nat_abs, ◌*ℤ◌}
-use Rattle.std.proofs.Common.{arith}
+-- The two sides of the exchange: which bids are on each, the running sum of the welfare side by side, and what a bid adds to it.
+use Rattle.std.specs.Prelude.{ℕ, ◌+◌, ◌*◌, ◌^◌, ◌≤◌, ◌≡◌, refl, Bool, true, false, not, cond, List, length, get_or, ℤ, pos, neg_ℤ, nat_abs, ◌+ℤ◌, ◌*ℤ◌}
+use Rattle.std.proofs.Common.{arith, add-one}
 use Rattle.std.specs.Int.Signed.{lt_z}
 use Rattle.sums.specs.declared.side.Side.{Side}
 use Rattle.sums.specs.declared.side.Side.TheVariants.{Sales, Purchases}
 use Rattle.definitions.specs.Limits.{quantity_limit}
 use Rattle.definitions.specs.Book.{price, quantity}
+use Rattle.definitions.specs.RunningSum.{running_sum, sum_of_sales, sum_with_purchases, sales_welfare}
 use Rattle.laws.specs.IntegerSize.{size_neg, size_product}
 use Rattle.sums.specs.BidsOnly.{bids_only}
 
@@ -14,7 +15,7 @@ abbrev pub on_side : Side → (quantity : ℤ) → Bool
 on_side Sales quantity = not (lt_z (pos 0) quantity)
 on_side Purchases quantity = lt_z (pos 0) quantity
 
--- a value as it is added for a bid of this side: taken off for a sale
+-- a value as a bid of this side adds it: it is taken off for a sale
 abbrev pub side_value : Side → ℤ → ℤ
 side_value Sales value = neg_ℤ value
 side_value Purchases value = value
@@ -23,9 +24,39 @@ side_value Purchases value = value
 abbrev pub side_part : Side → (price quantity : ℤ) (accepted : ℕ) → ℤ
 side_part side price quantity accepted = cond (on_side side quantity) (side_value side (price *ℤ pos accepted)) (pos 0)
 
--- what bid i adds
-abbrev pub part_of_bid : Side → (bids : List ℤ) (accepted : List ℕ) → ℕ → ℤ
-part_of_bid side bids accepted i = let B = bids_only (length accepted) 0 bids in side_part side (price B i) (quantity B i) (get_or accepted i 0)
+-- ---- the running sum
+
+-- document 02's running sum after the first k bids: of the sales, and then of the purchases too
+unfoldable pub sum_of_side : Side → (bids : List ℤ) (accepted : List ℕ) → (k : ℕ) → ℤ
+sum_of_side Sales bids accepted = sum_of_sales (bids_only (length accepted) 0 bids) (λ i. get_or accepted i 0)
+sum_of_side Purchases bids accepted = sum_with_purchases (bids_only (length accepted) 0 bids) (λ i. get_or accepted i 0)
+
+module _ (bids : List ℤ) (accepted : List ℕ) where
+  pub sales_begin : sum_of_side Sales bids accepted 0 ≡ pos 0
+  unfolding sum_of_side sum_of_sales running_sum
+  sales_begin = refl
+
+  -- the purchases go on from the last sale
+  pub purchases_begin : sum_of_side Purchases bids accepted 0 ≡ sum_of_side Sales bids accepted (length accepted)
+  unfolding sum_of_side sum_with_purchases sales_welfare running_sum
+  purchases_begin = refl
+
+  -- one bid more, at the code's k + 1
+  pub sum_of_side_next : (side : Side) (k : ℕ) → let B = bids_only (length accepted) 0 bids in
+      sum_of_side side bids accepted (k + 1) ≡ sum_of_side side bids accepted k +ℤ side_part side (price B k) (quantity B k) (get_or accepted k 0)
+  unfolding sum_of_side sum_of_sales sum_with_purchases running_sum
+  sum_of_side_next Sales k = rw (add-one k) refl
+  sum_of_side_next Purchases k = rw (add-one k) refl
+
+-- ---- sizes
+
+-- a bid adds to one side alone
+pub one_side : (price quantity : ℤ) (accepted : ℕ) → nat_abs (side_part Sales price quantity accepted) + nat_abs (side_part Purchases price quantity accepted) ≡ nat_abs (price *ℤ pos accepted)
+one_side price quantity accepted = go (lt_z (pos 0) quantity) (price *ℤ pos accepted)
+  where
+    go : (t : Bool) (v : ℤ) → nat_abs (cond (not t) (neg_ℤ v) (pos 0)) + nat_abs (cond t v (pos 0)) ≡ nat_abs v
+    go true v = omega arith
+    go false v = omega (arith, size_neg v)
 
 -- no bid adds more: a price is a 32-bit number
 abbrev pub value_limit : ℕ
@@ -33,15 +64,5 @@ value_limit = 2 ^ 31 * quantity_limit
 
 pub part_small : (side : Side) (price quantity : ℤ) (accepted : ℕ) → nat_abs price ≤ 2 ^ 31 → accepted ≤ quantity_limit
     → nat_abs (side_part side price quantity accepted) ≤ value_limit
-part_small side price quantity accepted h l = go (on_side side quantity)
-  where
-    value : ℤ
-    value = price *ℤ pos accepted
-
-    same_size : (s : Side) → nat_abs (side_value s value) ≡ nat_abs value
-    same_size Sales = size_neg value
-    same_size Purchases = refl
-
-    go : (t : Bool) → nat_abs (cond t (side_value side value) (pos 0)) ≤ value_limit
-    go true = omega (arith, same_size side, size_product price (pos accepted) (2 ^ 31) quantity_limit h l)
-    go false = omega arith
+part_small Sales price quantity accepted h l = omega (arith, one_side price quantity accepted, size_product price (pos accepted) (2 ^ 31) quantity_limit h l)
+part_small Purchases price quantity accepted h l = omega (arith, one_side price quantity accepted, size_product price (pos accepted) (2 ^ 31) quantity_limit h l)

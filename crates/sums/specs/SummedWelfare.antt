@@ -10,7 +10,7 @@ use Rattle.definitions.specs.Clearing.{welfare}
 use Rattle.definitions.specs.RunningSum.{sales_welfare}
 use Rattle.laws.specs.All.{all_to_at, all_to_made}
 use Rattle.std.specs.Cmp.{first_so, second_so}
-use Rattle.theory.specs.SameClearing.{welfare_same, sales_welfare_same}
+use Rattle.laws.specs.SameAmounts.{welfare_same, sales_welfare_same}
 use Rattle.sums.specs.BidsOnly.{bids_only, welfare_of, sales_welfare_of}
 
 -- no amount is above the limit on a bid's size

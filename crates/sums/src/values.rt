@@ -2,8 +2,8 @@
 ghost use Rattle.std.specs.Prelude.{◌≡◌, map, ◌+◌, ◌*◌, ◌≤◌, length, nat_abs};
 ghost use Rattle.definitions.specs.Limits.{bid_limit, quantity_limit};
 ghost use Rattle.definitions.specs.Clearing as clearing;
-ghost use Rattle.definitions.specs.RunningSum.{running_sum, sales_welfare};
-ghost use Rattle.sums.specs.Sides.{side_part, part_of_bid, value_limit};
+ghost use Rattle.definitions.specs.RunningSum.{sales_welfare};
+ghost use Rattle.sums.specs.Sides.{side_part, sum_of_side, value_limit};
 ghost use Rattle.sums.specs.SummedWelfare.{AmountsFit, amounts_small, amounts_fit, summed};
 
 use crate::WelfareSums;
@@ -42,12 +42,13 @@ pub fn do_amounts_fit(bids: &[i32], accepted: &[u32]) -> bool
         && are_small(accepted)
 }
 
-// Goes on with the running sum: adds the bids of one side, by bid number. After each turn the total is the running sum of document 02, which is
-// the invariant; in a `for`, since a sum of signed numbers may leave its limits on the way, and the invariant says that this one does not.
+// Goes on with the running sum: adds the bids of one side, by bid number. The invariant is that the total is document 02's running sum after the bids
+// passed. So it is a `for`: a sum of signed numbers may leave its limits on the way, and the invariant says that this one does not.
 fn add_side(side: Side, table: &[i32], accepted: &[u32], start: i64) -> i64
     requires fit { AmountsFit table.now accepted.now }
+    requires begun { start ≡ sum_of_side side table.now accepted.now 0 }
     requires start_small { nat_abs start ≤ bid_limit * value_limit }
-    ensures sum { result ≡ running_sum start (part_of_bid side table.now accepted.now) (length accepted.now) }
+    ensures sum { result ≡ sum_of_side side table.now accepted.now (length accepted.now) }
     ensures small { nat_abs result ≤ nat_abs start + bid_limit * value_limit }
 {
     let (bids, _) = table.as_chunks::<{ Limits::BID_NUMBERS }>();

@@ -1,83 +1,72 @@
 -- `add_side` meets its contract: each turn adds one bid's part, which is bounded by its amount's limit and by the 32 bits of its price.
-use Rattle.std.proofs.Common.{ℕ, ◌+◌, ◌*◌, ◌^◌, ◌≤◌, ◌≡◌, sym, ap, ap₂, ◌∙◌, subst, arith, ℤ, pos, nat_abs, ◌+ℤ◌, length, get_or, w32, w64, SFits, to_z, of_z, to_z-of_z}
+use Rattle.std.proofs.Common.{◌+◌, ◌*◌, ◌^◌, ◌≤◌, ◌≡◌, sym, ap, ap₂, ◌∙◌, subst, arith, ℤ, pos, nat_abs, ◌+ℤ◌, length, get_or, w32, w64, SFits, to_z, of_z, to_z-of_z}
 use borrow.Author.Rules.{sfits_of}
 use Rattle.definitions.specs.Limits.{bid_numbers, price_place, quantity_place}
-use Rattle.definitions.specs.RunningSum.{running_sum}
 use Rattle.laws.specs.SignedTests.{back}
 use Rattle.laws.specs.BidTable.{number, number_at, price_read, quantity_read}
 use Rattle.laws.specs.IntegerSize.{fits_size, size_fits, size_add}
-use Rattle.sums.specs.RunningSum.{running_none, running_next}
-use Rattle.sums.specs.Sides.{side_part, part_of_bid, value_limit, part_small}
+use Rattle.sums.specs.Sides.{side_part, sum_of_side, sum_of_side_next, value_limit, part_small}
 use Rattle.sums.proofs.values.add_side.Goals as goal
 use Rattle.sums.proofs.values.add_side.Goals.{After-part_of-part}
 
--- what the running sum begins with, as the loop has it
-abbrev begun : ℤ → ℤ
-begun start = to_z w64 (of_z w64 start)
-
--- the running sum of i bids
-abbrev sum_at : After-part_of-part → ℕ → ℤ
-sum_at c i = running_sum (begun c.args.start) (part_of_bid c.args.side c.args.table.now c.args.accepted.now) i
-
 pub loop-i-init : goal.loop-i-init
 loop-i-init c =
-    let none = running_none (begun c.args.start) (part_of_bid c.args.side c.args.table.now c.args.accepted.now) in
-    record { sum = sym none; small = omega (arith, ap nat_abs none) }
+    let begun = to_z-of_z {w = w64} c.ranges.start ∙ c.requires.begun in
+    record { sum = begun; small = omega (arith, ap nat_abs begun) }
 
--- this turn's part
-part_is : (c : After-part_of-part) → to_z w64 (of_z w64 c.part_of-part.result) ≡ part_of_bid c.args.side c.args.table.now c.args.accepted.now c.loop-i.i
-part_is c =
+-- the running sum of one bid more
+abbrev onward_sum : After-part_of-part → ℤ
+onward_sum c = sum_of_side c.args.side c.args.table.now c.args.accepted.now (c.loop-i.i + 1)
+
+onward : (c : After-part_of-part) → to_z w64 c.loop-i.total-bits +ℤ to_z w64 (of_z w64 c.part_of-part.result) ≡ onward_sum c
+onward c =
     let l = c.loop-i in
     let front = c.as_chunks.ensures in
     let table = c.args.table.now in
-    back w64 c.part_of-part.result c.part_of-part.type_inv
+    let accepted = c.args.accepted.now in
+    ap₂ ◌+ℤ◌ l.invariant.sum
+    (back w64 c.part_of-part.result c.part_of-part.type_inv
     ∙ c.part_of-part.ensures
-    ∙ ap₂ (λ (p : ℤ) (q : ℤ). side_part c.args.side p q (get_or c.args.accepted.now l.i 0))
+    ∙ ap₂ (λ (p : ℤ) (q : ℤ). side_part c.args.side p q (get_or accepted l.i 0))
     (price_read table front.front front.front_len l.i c.loop-i-test.true c.price-1.given)
-    (quantity_read table front.front front.front_len l.i c.loop-i-test.true c.quantity-1.given)
+    (quantity_read table front.front front.front_len l.i c.loop-i-test.true c.quantity-1.given))
+    ∙ sym (sum_of_side_next table accepted c.args.side l.i)
 
-onward : (c : After-part_of-part) → to_z w64 c.loop-i.total-bits +ℤ to_z w64 (of_z w64 c.part_of-part.result) ≡ sum_at c (c.loop-i.i + 1)
-onward c =
-    ap₂ ◌+ℤ◌ c.loop-i.invariant.sum (part_is c)
-    ∙ sym (running_next (begun c.args.start) (part_of_bid c.args.side c.args.table.now c.args.accepted.now) c.loop-i.i)
-
--- the size of the sum of one bid more
-onward_size : (c : After-part_of-part) → nat_abs (sum_at c (c.loop-i.i + 1)) ≤ nat_abs (begun c.args.start) + (c.loop-i.i + 1) * value_limit
+-- its size
+onward_size : (c : After-part_of-part) → nat_abs (onward_sum c) ≤ nat_abs (to_z w64 (of_z w64 c.args.start)) + (c.loop-i.i + 1) * value_limit
 onward_size c =
     let l = c.loop-i in
     let table = c.args.table.now in
+    let accepted = c.args.accepted.now in
     let front = c.as_chunks.ensures in
-    let part = part_of_bid c.args.side table c.args.accepted.now in
     let price : ℤ = get_or table (bid_numbers * l.i + price_place) (pos 0) in
     let quantity : ℤ = get_or table (bid_numbers * l.i + quantity_place) (pos 0) in
+    let amount = get_or accepted l.i 0 in
     let price_small : nat_abs price ≤ 2 ^ 31 =
     subst (λ (z : ℤ). nat_abs z ≤ 2 ^ 31) (number_at table front.front front.front_len l.i c.loop-i-test.true price_place (omega arith))
     (size_fits w32 (number c.as_chunks.result.0.now l.i price_place) (sfits_of c.price-1.given)) in
     omega (
       arith,
-      ap nat_abs (running_next (begun c.args.start) part l.i),
+      ap nat_abs (sum_of_side_next table accepted c.args.side l.i),
       l.invariant.small,
-      size_add (sum_at c l.i) (part l.i),
-      part_small c.args.side price quantity (get_or c.args.accepted.now l.i 0) price_small (c.requires.fit.small l.i (omega arith)),
+      size_add (sum_of_side c.args.side table accepted l.i) (side_part c.args.side price quantity amount),
+      part_small c.args.side price quantity amount price_small (c.requires.fit.small l.i (omega arith)),
     )
 
-same_start : (c : After-part_of-part) → begun c.args.start ≡ c.args.start
-same_start c = to_z-of_z c.ranges.start
-
-fitting : (c : After-part_of-part) → SFits w64 (sum_at c (c.loop-i.i + 1))
-fitting c = fits_size w64 _ (omega (arith, onward_size c, ap nat_abs (same_start c), c.requires.start_small, c.requires.fit.few, c.loop-i-test.true))
+fitting : (c : After-part_of-part) → SFits w64 (onward_sum c)
+fitting c =
+    fits_size w64 _ (omega (arith, onward_size c, ap nat_abs (to_z-of_z {w = w64} c.ranges.start), c.requires.start_small, c.requires.fit.few, c.loop-i-test.true))
 
 pub overflow_add-total : goal.overflow_add-total
 overflow_add-total c = subst (SFits w64) (sym (onward c)) (fitting c)
 
 pub loop-i-preserved : goal.loop-i-preserved
-loop-i-preserved c = record { sum = ap begun (onward c) ∙ to_z-of_z (fitting c); small = onward_size c }
+loop-i-preserved c = record { sum = ap (λ (z : ℤ). to_z w64 (of_z w64 z)) (onward c) ∙ to_z-of_z (fitting c); small = onward_size c }
 
 pub returns-clause-sum : goal.returns-clause-sum
 returns-clause-sum c =
     let e : c.loop-i.i ≡ length c.args.accepted.now = omega arith in
-    c.loop-i.invariant.sum
-    ∙ ap₂ (λ (s : ℤ) (k : ℕ). running_sum s (part_of_bid c.args.side c.args.table.now c.args.accepted.now) k) (to_z-of_z c.ranges.start) e
+    c.loop-i.invariant.sum ∙ ap (sum_of_side c.args.side c.args.table.now c.args.accepted.now) e
 
 pub returns-clause-small : goal.returns-clause-small
 returns-clause-small c =
