@@ -1,14 +1,12 @@
 -- What clearing knows after sealing: a refused book leaves everything as defined for a refusal; an accepted one is sealed, and after its plan's run the amounts
 -- are within limits.
-use Rattle.std.proofs.Common.{ℕ, ◌≡◌, sym, ap, subst, ◌∙◌, false, List, arith, length, pos}
+use Rattle.std.proofs.Common.{ℕ, ◌≡◌, sym, ap, subst, ◌∙◌, false, List, arith, length, ℤ, pos}
 use Rattle.definitions.specs.Book.{Book}
 use Rattle.definitions.specs.Sheet.{sealed_sheet}
-use Rattle.definitions.specs.Clearing.{welfare}
 use Rattle.definitions.specs.Machine.{IsSheet, run_of}
 use Rattle.definitions.specs.Answers.{Refusal, none, unless, is_none}
 use Rattle.definitions.specs.Calls.{AcceptedBook, seal_refusal, seal_sheet, counts_refusal}
-use Rattle.definitions.specs.Outcome.{result_of, plan_run, clear_sheet, clear_count, clear_welfare}
-use Rattle.definitions.specs.RunningSum.{sales_welfare, clear_sales}
+use Rattle.definitions.specs.Outcome.{result_of, plan_run, clear_sheet, clear_count}
 use Rattle.laws.specs.Refusal.{unless_refused, first_left}
 use Rattle.laws.specs.Sizes.{accepted_sizes}
 use Rattle.laws.specs.AcceptedBook.{Sound, accepted_sound}
@@ -26,13 +24,9 @@ module _ (B : Book) (lent : List ℕ) where
     unfolding clear_count
     refused_count = sym (unless_refused (seal_refusal B (length lent)) (length (plan B.n B.m)) 0 refused)
 
-    pub refused_welfare : pos 0 ≡ clear_welfare plan B (length lent)
-    unfolding clear_welfare
-    refused_welfare = sym (unless_refused (seal_refusal B (length lent)) (welfare B (result_of B (plan_run plan B)).accepted) (pos 0) refused)
-
-    pub refused_sales : pos 0 ≡ clear_sales plan B (length lent)
-    unfolding clear_sales
-    refused_sales = sym (unless_refused (seal_refusal B (length lent)) (sales_welfare B (result_of B (plan_run plan B)).accepted) (pos 0) refused)
+    -- the welfare, and that of the sales
+    pub refused_sum : (sum : Book → (ℕ → ℕ) → ℤ) → pos 0 ≡ unless (seal_refusal B (length lent)) (sum B (result_of B (plan_run plan B)).accepted) (pos 0)
+    refused_sum sum = sym (unless_refused (seal_refusal B (length lent)) (sum B (result_of B (plan_run plan B)).accepted) (pos 0) refused)
 
     pub refused_sheet : seal_sheet B lent ≡ clear_sheet plan B lent
     unfolding seal_sheet clear_sheet
@@ -61,13 +55,8 @@ module _ (B : Book) (lent : List ℕ) where
     unfolding clear_count
     count_given = sym (given (length (plan B.n B.m)) 0)
 
-    pub welfare_given : welfare B (result_of B (plan_run plan B)).accepted ≡ clear_welfare plan B (length lent)
-    unfolding clear_welfare
-    welfare_given = sym (given (welfare B (result_of B (plan_run plan B)).accepted) (pos 0))
-
-    pub sales_given : sales_welfare B (result_of B (plan_run plan B)).accepted ≡ clear_sales plan B (length lent)
-    unfolding clear_sales
-    sales_given = sym (given (sales_welfare B (result_of B (plan_run plan B)).accepted) (pos 0))
+    pub sum_given : (sum : Book → (ℕ → ℕ) → ℤ) → let left = sum B (result_of B (plan_run plan B)).accepted in left ≡ unless (seal_refusal B (length lent)) left (pos 0)
+    sum_given sum = sym (given (sum B (result_of B (plan_run plan B)).accepted) (pos 0))
 
     pub sheet_given : plan_run plan B ≡ clear_sheet plan B lent
     unfolding clear_sheet

@@ -12,7 +12,7 @@ use Rattle.definitions.specs.Bytes.{orders_bytes}
 use Rattle.definitions.specs.Calls.{AcceptedBook, seal_refusal, counts_refusal}
 use Rattle.definitions.specs.Plan.{asked, ended, collected}
 use Rattle.definitions.specs.Outcome.{Outcome, result_of, order_limit, plan_run, clear_sheet, clear_count, clear_welfare}
-use Rattle.definitions.specs.RunningSum.{sales_welfare, clear_sales}
+use Rattle.definitions.specs.RunningSum.{sales_welfare, clear_sales_welfare}
 use Rattle.laws.specs.Refusal.{first_left}
 use Rattle.laws.specs.AcceptedBook.{accepted_sound}
 use Rattle.theory.specs.BestClearing.{best_welfare, welfare_of_best, sales_of_best}
@@ -42,8 +42,8 @@ pub record ClearedBy (orders : List Order) (A : Book) : Type 0 where
   -- the welfare given is that of each best clearing, and no feasible clearing has a greater one
   pub welfare_given : (c : Clearing) → Best A c → clear_welfare plan A cell_count ≡ welfare A c.accepted
   pub greatest_welfare : (d : Clearing) → Feasible A d → welfare A d.accepted ≤ℤ clear_welfare plan A cell_count
-  -- and so is the welfare of the sales alone (document 02, request 3)
-  pub sales_given : (c : Clearing) → Best A c → clear_sales plan A cell_count ≡ sales_welfare A c.accepted
+  -- the welfare of the sales alone that is given is that of each best clearing (document 02, request 3)
+  pub sales_given : (c : Clearing) → Best A c → clear_sales_welfare plan A cell_count ≡ sales_welfare A c.accepted
 
 -- "Take every two books A and B that sealing accepts, with equal bid counts and equal pool counts. .. the plan is the same list of orders for
 -- both, byte for byte. .. and reports the same count for both. .. for n bids and m pools it is at most n × (100 × n + 40 × (m+1)^6) + 10,000."
@@ -66,19 +66,15 @@ module _ (A : Book) (accepted : AcceptedBook A) where
   unfolding seal_refusal
   counts = first_left (counts_refusal A.n A.m) _ accepted
 
-  given_welfare : clear_welfare plan A cell_count ≡ welfare A (result_of A (plan_run plan A)).accepted
-  unfolding clear_welfare
-  given_welfare = not_refused (welfare A (result_of A (plan_run plan A)).accepted) (pos 0) cell_count refl
-
-  given_sales : clear_sales plan A cell_count ≡ sales_welfare A (result_of A (plan_run plan A)).accepted
-  unfolding clear_sales
-  given_sales = not_refused (sales_welfare A (result_of A (plan_run plan A)).accepted) (pos 0) cell_count refl
+  -- what is given of a sum over the amounts: of the welfare, and of that of the sales
+  given_sum : (sum : Book → (ℕ → ℕ) → ℤ) → let left = sum A (result_of A (plan_run plan A)).accepted in unless (seal_refusal A cell_count) left (pos 0) ≡ left
+  given_sum sum = not_refused (sum A (result_of A (plan_run plan A)).accepted) (pos 0) cell_count refl
 
   pub plan_orders_of : AllWellFormed (plan A.n A.m)
   plan_orders_of = let sound = accepted_sound A accepted in plan_orders A.n A.m sound.bids sound.pools
 
   pub cleared_by_plan : ClearedBy (plan A.n A.m) A
-  unfolding plan_run clear_sheet clear_count
+  unfolding plan_run clear_sheet clear_count clear_welfare clear_sales_welfare
   cleared_by_plan =
       let outcome = plan_outcome A accepted in
       record {
@@ -89,9 +85,9 @@ module _ (A : Book) (accepted : AcceptedBook A) where
         by_bytes = orders_bytes_run (sealed_sheet A) (plan A.n A.m) (sealed_is_sheet A (accepted_sound A accepted)) plan_orders_of;
         sheet = λ lent e. not_refused (plan_run plan A) lent (length lent) e;
         count = not_refused (length (plan A.n A.m)) 0 cell_count refl;
-        welfare_given = λ c b. given_welfare ∙ welfare_of_best A accepted (result_of A (plan_run plan A)) c outcome.best b;
-        greatest_welfare = λ d f. subst (λ (z : ℤ). welfare A d.accepted ≤ℤ z) (sym given_welfare) (best_welfare A accepted (result_of A (plan_run plan A)) outcome.best d f);
-        sales_given = λ c b. given_sales ∙ sales_of_best A accepted (result_of A (plan_run plan A)) c outcome.best b;
+        welfare_given = λ c b. given_sum welfare ∙ welfare_of_best A accepted (result_of A (plan_run plan A)) c outcome.best b;
+        greatest_welfare = λ d f. subst (λ (z : ℤ). welfare A d.accepted ≤ℤ z) (sym (given_sum welfare)) (best_welfare A accepted (result_of A (plan_run plan A)) outcome.best d f);
+        sales_given = λ c b. given_sum sales_welfare ∙ sales_of_best A accepted (result_of A (plan_run plan A)) c outcome.best b;
       }
 
 -- a book is cleared by the plan of another of the same counts

@@ -9,7 +9,7 @@ ghost use Rattle.definitions.specs.Clearing as clearing;
 ghost use Rattle.definitions.specs.Machine.{cell};
 ghost use Rattle.definitions.specs.Calls.{seal_refusal};
 ghost use Rattle.definitions.specs.Outcome.{clear_sheet, clear_count, clear_welfare};
-ghost use Rattle.definitions.specs.RunningSum.{sales_welfare, clear_sales};
+ghost use Rattle.definitions.specs.RunningSum.{sales_welfare, clear_sales_welfare};
 ghost use Rattle.plan.specs.Plan.{plan};
 ghost use Rattle.clearing.specs.Amounts.{AmountsWithin};
 ghost use Rattle.clearing.specs.Given.{nothing_cleared};
@@ -42,7 +42,7 @@ pub fn clear(book: &LentBook, sheet: &mut [u32]) -> Result<Cleared, Reason>
     ensures refusal { refusal_of result ≡ seal_refusal (book_of book.now) (length sheet.old) }
     ensures orders { (given_or nothing_cleared result).orders ≡ clear_count plan (book_of book.now) (length sheet.old) }
     ensures welfare { (given_or nothing_cleared result).welfare ≡ clear_welfare plan (book_of book.now) (length sheet.old) }
-    ensures sales_welfare { (given_or nothing_cleared result).sales_welfare ≡ clear_sales plan (book_of book.now) (length sheet.old) }
+    ensures sales_welfare { (given_or nothing_cleared result).sales_welfare ≡ clear_sales_welfare plan (book_of book.now) (length sheet.old) }
     ensures cells { sheet.new ≡ clear_sheet plan (book_of book.now) sheet.old }
 {
     let counts = seal(book, sheet)?;
