@@ -10,7 +10,7 @@ use Rattle.definitions.specs.Machine.{cell, run_of}
 use Rattle.definitions.specs.Calls.{seal_refusal, bids_refusal, capacities_refusal, row_refusal, first_from}
 use Rattle.definitions.specs.Plan.{Plan}
 use Rattle.definitions.specs.Outcome.{Outcome, clearing_results, order_limit, plan_run, clear_sheet, clear_count, clear_welfare}
-use Rattle.definitions.specs.RunningSum.{running_sum, sum_of_sales, sales_welfare, clear_sales}
+use Rattle.definitions.specs.RunningSum.{running_sum, sum_of_sales, sales_welfare, sum_with_purchases, end_figure, clear_sales_welfare}
 
 -- a clearing of one pool from its amounts
 abbrev amounts : List ℕ → Clearing
@@ -130,8 +130,8 @@ summed : clear_welfare three book_one 4096 ∷ clear_welfare three book_one 4095
 unfolding three book_one clear_welfare welfare sum_z plan_run run_of sealed_sheet seal_refusal bids_refusal capacities_refusal row_refusal first_from
 summed = refl
 
-sales_summed : clear_sales three book_one 4096 ∷ clear_sales three book_one 4095 ∷ [] ≡ neg_ℤ (pos 120) ∷ pos 0 ∷ []
-unfolding three book_one clear_sales sales_welfare sum_of_sales running_sum plan_run run_of sealed_sheet seal_refusal bids_refusal capacities_refusal row_refusal first_from
+sales_summed : clear_sales_welfare three book_one 4096 ∷ clear_sales_welfare three book_one 4095 ∷ [] ≡ neg_ℤ (pos 120) ∷ pos 0 ∷ []
+unfolding three book_one clear_sales_welfare sales_welfare sum_of_sales end_figure sum_with_purchases running_sum plan_run run_of sealed_sheet seal_refusal bids_refusal capacities_refusal row_refusal first_from
 sales_summed = refl
 
 -- demand 3's limit, at the ends and at a middle

@@ -38,5 +38,5 @@ unfoldable pub end_figure : Book → (ℕ → ℕ) → ℤ
 end_figure B accepted = sum_with_purchases B accepted B.n
 
 -- "Clearing also gives the welfare of the sales alone": of the clearing that its run leaves, and on a refusal 0 as the welfare is
-unfoldable pub clear_sales : Plan → Book → (cells : ℕ) → ℤ
-clear_sales plan B cells = unless (seal_refusal B cells) (sales_welfare B (result_of B (plan_run plan B)).accepted) (pos 0)
+unfoldable pub clear_sales_welfare : Plan → Book → (cells : ℕ) → ℤ
+clear_sales_welfare plan B cells = unless (seal_refusal B cells) (sales_welfare B (result_of B (plan_run plan B)).accepted) (pos 0)
