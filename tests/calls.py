@@ -242,8 +242,11 @@ def outcome(output):
         return int(first.split(" ")[1])
     if first == "unreadable":
         return None
-    for name, number in (line.split(" ") for line in lines if line.startswith(("yes ", "sales "))):
-        return f"yes {number}" if name == "yes" else "sales 0" if number == "0" else f"sales {'below' if number[0] == '-' else 'above'} 0"
+    found = dict(line.partition(" ")[::2] for line in lines)
+    if "yes" in found:
+        return "yes " + found["yes"]
+    if "sales" in found:
+        return "sales " + ("0" if found["sales"] == "0" else "below 0" if found["sales"].startswith("-") else "above 0")
     return 0
 
 
