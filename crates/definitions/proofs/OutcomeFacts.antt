@@ -3,6 +3,7 @@ use Rattle.std.proofs.Common.{ℕ, zero, suc, ◌+◌, ◌≤◌, ◌<◌, ◌�
 use Rattle.definitions.proofs.Cases.{below_one, below_two}
 use Rattle.definitions.specs.declared.Order.TheVariants.{Constant, Sum}
 use Rattle.definitions.specs.Arithmetic.{sum_to, sum_z, join_to}
+use Rattle.definitions.specs.Book.{Book, book}
 use Rattle.definitions.specs.Sheet.{sealed_sheet, amount_cell, price_cell, presence_cell, first_scratch}
 use Rattle.definitions.specs.Examples.{book_one, book_two, book_five}
 use Rattle.definitions.specs.Clearing.{Clearing, Feasible, Best, NoGreater, equal, less, sold, bought, inflow, outflow, welfare, before, used, pool_price, highest}
@@ -122,16 +123,25 @@ cleared :
 unfolding three book_one clear_sheet plan_run run_of sealed_sheet seal_refusal bids_refusal capacities_refusal row_refusal first_from
 cleared = refl
 
-counted : clear_count three book_one 4096 ∷ clear_count three book_one 4095 ∷ [] ≡ 3 ∷ 0 ∷ []
-unfolding three book_one clear_count seal_refusal bids_refusal capacities_refusal row_refusal first_from
+-- the same book, but for the second bid's pool, which is none
+faulty : Book
+faulty = book 2 1 (pos 1 ∷ pos 20 ∷ neg_ℤ (pos 10) ∷ pos 2 ∷ pos 30 ∷ pos 6 ∷ []) (pos 0 ∷ [])
+
+counted : clear_count three book_one 4096 ∷ clear_count three book_one 4095 ∷ clear_count three faulty 4096 ∷ [] ≡ 3 ∷ 0 ∷ 0 ∷ []
+unfolding three book_one faulty clear_count seal_refusal bids_refusal capacities_refusal row_refusal first_from
 counted = refl
 
-summed : clear_welfare three book_one 4096 ∷ clear_welfare three book_one 4095 ∷ [] ≡ pos 60 ∷ pos 0 ∷ []
-unfolding three book_one clear_welfare welfare sum_z plan_run run_of sealed_sheet seal_refusal bids_refusal capacities_refusal row_refusal first_from
+summed : clear_welfare three book_one 4096 ∷ clear_welfare three book_one 4095 ∷ clear_welfare three faulty 4096 ∷ [] ≡ pos 60 ∷ pos 0 ∷ pos 0 ∷ []
+unfolding three book_one faulty clear_welfare welfare sum_z plan_run run_of sealed_sheet seal_refusal bids_refusal capacities_refusal row_refusal first_from
 summed = refl
 
-sales_summed : clear_sales_welfare three book_one 4096 ∷ clear_sales_welfare three book_one 4095 ∷ [] ≡ neg_ℤ (pos 120) ∷ pos 0 ∷ []
-unfolding three book_one clear_sales_welfare sales_welfare sum_of_sales end_figure sum_with_purchases running_sum plan_run run_of sealed_sheet seal_refusal bids_refusal capacities_refusal row_refusal first_from
+sales_summed :
+    clear_sales_welfare three book_one 4096
+    ∷ clear_sales_welfare three book_one 4095
+    ∷ clear_sales_welfare three faulty 4096
+    ∷ []
+    ≡ neg_ℤ (pos 120) ∷ pos 0 ∷ pos 0 ∷ []
+unfolding three book_one faulty clear_sales_welfare sales_welfare sum_of_sales end_figure sum_with_purchases running_sum plan_run run_of sealed_sheet seal_refusal bids_refusal capacities_refusal row_refusal first_from
 sales_summed = refl
 
 -- demand 3's limit, at the ends and at a middle

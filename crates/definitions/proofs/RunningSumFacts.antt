@@ -12,7 +12,7 @@ mixed = book 3 2 (pos 2 ∷ pos 30 ∷ pos 6 ∷ pos 1 ∷ pos 20 ∷ neg_ℤ (p
 some : ℕ → ℕ
 some i = get_or (3 ∷ 3 ∷ 1 ∷ []) i 0
 
--- the running sum after the first none, one, two and three bids: the sales, then the purchases too
+-- the running sum after no bid, one, two and three: the sales, then the purchases too
 after_each :
     sum_of_sales mixed some 0
     ∷ sum_of_sales mixed some 1

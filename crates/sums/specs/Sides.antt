@@ -1,4 +1,4 @@
--- The two sides of the exchange: which bids are on each, the running sum of the welfare side by side, and what a bid adds to it.
+-- The two sides of the exchange: which bids are on each, the running sum of the welfare, one side after the other, and what a bid adds to it.
 use Rattle.std.specs.Prelude.{ℕ, ◌+◌, ◌*◌, ◌^◌, ◌≤◌, ◌≡◌, refl, Bool, true, false, not, cond, List, length, get_or, ℤ, pos, neg_ℤ, nat_abs, ◌+ℤ◌, ◌*ℤ◌}
 use Rattle.std.proofs.Common.{arith, add-one}
 use Rattle.std.specs.Int.Signed.{lt_z}

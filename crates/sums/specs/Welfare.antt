@@ -10,7 +10,7 @@ use Rattle.definitions.specs.Arithmetic.{sum_to, sum_z}
 use Rattle.definitions.specs.Book.{Book, price, quantity, sale}
 use Rattle.definitions.specs.Calls.{AcceptedBook}
 use Rattle.definitions.specs.Clearing.{Clearing, Feasible, value, welfare}
-use Rattle.definitions.specs.RunningSum.{sale_part, purchase_part, sum_of_sales, sales_welfare, sum_with_purchases, end_figure}
+use Rattle.definitions.specs.RunningSum.{running_sum, sale_part, purchase_part, sum_of_sales, sales_welfare, sum_with_purchases, end_figure}
 use Rattle.laws.specs.AcceptedBook.{Sound, accepted_sound}
 use Rattle.laws.specs.IntegerSize.{fits_size, size_product}
 use Rattle.laws.specs.RunningSum.{running_sum_is, running_sum_size}
@@ -48,6 +48,18 @@ module _ (B : Book) (accepted : ℕ → ℕ) where
       running_sum_is (sales_welfare B accepted) (purchase_part B accepted) B.n
       ∙ ap (λ (z : ℤ). z +ℤ paid) sales_welfare_is
       ∙ +ℤ_comm (neg_ℤ (taken B.n)) paid
+
+  -- ---- signs
+
+  -- a sale of negative price raises the sum, by the price's size × accepted
+  pub negative_price_raises : (i : ℕ) → sale B i ≡ true → lt_z (price B i) (pos 0) ≡ true
+      → sum_of_sales B accepted (suc i) ≡ sum_of_sales B accepted i +ℤ pos (nat_abs (price B i) * accepted i)
+  unfolding sum_of_sales running_sum
+  negative_price_raises i s e = ap (λ (z : ℤ). sum_of_sales B accepted i +ℤ z) (rw s (go (price B i) e))
+    where
+      go : (z : ℤ) → lt_z z (pos 0) ≡ true → neg_ℤ (z *ℤ pos (accepted i)) ≡ pos (nat_abs z * accepted i)
+      go (pos a) e = absurd (let none : a < 0 = ltb-true a 0 e in omega arith)
+      go (negsuc a) e = ap neg_ℤ (negsuc-*ℤ-pos a (accepted i)) ∙ neg_ℤ-neg_ℤ (pos (suc a * accepted i))
 
   -- ---- sizes
 
@@ -118,18 +130,9 @@ module _ (B : Book) (accepted : AcceptedBook B) (c : Clearing) (feasible : Feasi
   unfolding end_figure
   welfare_fits = subst (SFits w64) (end_figure_is B c.accepted) (running_sums_fit B.n (omega arith)).1.fits
 
-  -- ---- signs
-
-  -- a withdrawn bid is a sale of 0: it adds nothing
-  pub withdrawn_adds_nothing : (i : ℕ) → i < B.n → quantity B i ≡ pos 0 → sale_part B c.accepted i ≡ pos 0
+  -- "0 is a withdrawn bid and counts as a sale of 0": it is a sale, and adds nothing
+  pub withdrawn_adds_nothing : (i : ℕ) → i < B.n → quantity B i ≡ pos 0
+      → (sale B i ≡ true) × (sale_part B c.accepted i ≡ pos 0) × (purchase_part B c.accepted i ≡ pos 0)
   withdrawn_adds_nothing i l e =
       let none : c.accepted i ≡ 0 = omega (arith, feasible.amounts i l, ap nat_abs e) in
-      rw (e, none) (ap neg_ℤ (*ℤ-zero (price B i)))
-
-  -- a sale of negative price raises the sum, by the price's size × accepted
-  pub negative_price_raises : (i : ℕ) → sale B i ≡ true → lt_z (price B i) (pos 0) ≡ true → sale_part B c.accepted i ≡ pos (nat_abs (price B i) * c.accepted i)
-  negative_price_raises i s e = rw s (go (price B i) e)
-    where
-      go : (z : ℤ) → lt_z z (pos 0) ≡ true → neg_ℤ (z *ℤ pos (c.accepted i)) ≡ pos (nat_abs z * c.accepted i)
-      go (pos a) e = absurd (let none : a < 0 = ltb-true a 0 e in omega arith)
-      go (negsuc a) e = ap neg_ℤ (negsuc-*ℤ-pos a (c.accepted i)) ∙ neg_ℤ-neg_ℤ (pos (suc a * c.accepted i))
+      (rw e refl, rw (e, none) (ap neg_ℤ (*ℤ-zero (price B i))), rw e refl)

@@ -62,8 +62,8 @@ pub struct WelfareSums {
     pub whole: i64,
 }
 
-// Sums the welfare. Three functions promise a sum of this definition: `sum_values` where the amounts fit, this one for all, and `welfare_sent` the whole
-// of amounts sent as signed numbers.
+// Sums the welfare. Three functions promise it as `summed`: `sum_values` where the amounts fit, this one for all, and `welfare_sent` the whole of amounts
+// sent as signed numbers.
 pub fn welfare(bids: &[i32], accepted: &[u32]) -> WelfareSums
     ensures sales { result.sales ≡ summed sales_welfare bids.now accepted.now }
     ensures whole { result.whole ≡ summed clearing.welfare bids.now accepted.now }
