@@ -1,17 +1,17 @@
--- Merit order, used amounts, dictionary order, feasibility, welfare and prices on small books, by computation.
+-- Merit order, used amounts, dictionary order, feasibility and welfare on small books, by computation.
 use Rattle.std.proofs.Common.{ℕ, zero, suc, ◌+◌, ◌*◌, ◌≡◌, refl, true, false, List, [], ◌∷◌, arith, get_or, pos, neg_ℤ}
 use Rattle.definitions.proofs.Cases.{below_one, below_two, below_three, lines_of_two}
 use Rattle.definitions.specs.Arithmetic.{sum_to, sum_z}
 use Rattle.definitions.specs.Book.{Book, book}
 use Rattle.definitions.specs.Examples.{book_one, book_two, book_four, book_five}
-use Rattle.definitions.specs.Clearing.{Clearing, Feasible, Best, Permitted, NoGreater, equal, less, sold, bought, inflow, outflow, welfare, before, used, missing, present, pool_price, highest}
+use Rattle.definitions.specs.Clearing.{Clearing, Feasible, Best, Permitted, NoGreater, equal, less, sold, bought, inflow, outflow, welfare, before, used}
 
 -- a clearing from its lists: the amounts, and the flows of m pools by rows
-abbrev listed : ℕ → List ℕ → List ℕ → Clearing
+abbrev pub listed : ℕ → List ℕ → List ℕ → Clearing
 listed m xs fs = record { accepted = λ i. get_or xs i 0; flow = λ a b. get_or fs (a * m + b) 0 }
 
 -- ---- the merit order's four clauses, one pool: two sales and two purchases at 30, a sale at 10, a withdrawn bid at −40
-merit : Book
+unfoldable pub merit : Book
 merit =
     book 6 1
     (pos 1 ∷ pos 30 ∷ neg_ℤ (pos 5) ∷ pos 1 ∷ pos 30 ∷ neg_ℤ (pos 5) ∷ pos 1 ∷ pos 30 ∷ pos 4 ∷ pos 1 ∷ pos 30 ∷ pos 4
@@ -97,16 +97,3 @@ welfares :
     ≡ pos 50 ∷ neg_ℤ (pos 40) ∷ neg_ℤ (pos 40) ∷ []
 unfolding book_one book_five merit welfare sum_z
 welfares = refl
-
--- ---- prices: the highest among sales accepted above 0, of the pool's own bids, or none
-prices :
-    pool_price book_two (λ i. get_or (1 ∷ 1 ∷ []) i 0) 0
-    ∷ pool_price book_two (λ i. get_or (1 ∷ 1 ∷ []) i 0) 1
-    ∷ pool_price merit (λ i. get_or (0 ∷ 0 ∷ 4 ∷ 4 ∷ 5 ∷ []) i 0) 0
-    ∷ pool_price merit (λ i. get_or (0 ∷ 1 ∷ 4 ∷ 4 ∷ 5 ∷ []) i 0) 0
-    ∷ pool_price merit (λ i. get_or (5 ∷ 0 ∷ 4 ∷ 4 ∷ 5 ∷ []) i 0) 0
-    ∷ pool_price book_five (λ i. get_or (4 ∷ 4 ∷ []) i 0) 0
-    ∷ []
-    ≡ present (pos 20) ∷ missing ∷ present (pos 10) ∷ present (pos 30) ∷ present (pos 30) ∷ present (neg_ℤ (pos 10)) ∷ []
-unfolding book_two book_five merit pool_price highest
-prices = refl

@@ -2,6 +2,7 @@
 pub mod Cases
 pub mod TableFacts
 pub mod ClearingFacts
+pub mod PoolPriceFacts
 pub mod OrderFacts
 pub mod PlanFacts
 pub mod OutcomeFacts

@@ -2,11 +2,12 @@
 use Rattle.std.proofs.Common.{ℕ, zero, suc, ◌+◌, ◌≤◌, ◌<◌, ◌≡◌, refl, List, [], ◌∷◌, arith, get_or, replicate, pos, neg_ℤ}
 use Rattle.definitions.proofs.Cases.{below_one, below_two}
 use Rattle.definitions.specs.declared.Order.TheVariants.{Constant, Sum}
-use Rattle.definitions.specs.Arithmetic.{sum_to, sum_z, join_to}
+use Rattle.definitions.specs.Arithmetic.{sum_to, sum_z, any_to, join_to}
 use Rattle.definitions.specs.Book.{Book, book}
-use Rattle.definitions.specs.Sheet.{sealed_sheet, amount_cell, price_cell, presence_cell, first_scratch}
-use Rattle.definitions.specs.Examples.{book_one, book_two, book_five}
-use Rattle.definitions.specs.Clearing.{Clearing, Feasible, Best, NoGreater, equal, less, sold, bought, inflow, outflow, welfare, before, used, pool_price, highest}
+use Rattle.definitions.specs.Sheet.{sealed_sheet, amount_cell, flow_cell, price_cell, presence_cell, first_scratch}
+use Rattle.definitions.specs.Examples.{book_one, book_two, book_five, book_seven}
+use Rattle.definitions.specs.Clearing.{Clearing, Feasible, Best, NoGreater, equal, less, sold, bought, inflow, outflow, welfare, before, used}
+use Rattle.definitions.specs.PoolPrice.{reaches_over, reaches, least_price, pool_price}
 use Rattle.definitions.specs.Machine.{cell, run_of}
 use Rattle.definitions.specs.Calls.{seal_refusal, bids_refusal, capacities_refusal, row_refusal, first_from}
 use Rattle.definitions.specs.Plan.{Plan}
@@ -87,25 +88,34 @@ inputs_kept : (s : List ℕ) → Outcome book_two s → (cell s 0 ≡ 1) × (cel
 unfolding book_two sealed_sheet
 inputs_kept s h = (h.inputs 0 (omega arith), h.inputs 2 (omega arith), h.inputs 9 (omega arith))
 
--- a pool with no sale has no price: "both cells are 0"
-no_price : (s : List ℕ) → Outcome book_two s → (cell s (price_cell 2 2 1) ≡ 0) × (cell s (presence_cell 2 2 1) ≡ 0)
-unfolding book_two pool_price highest
+-- a book with no bid has no price: "both cells are 0"
+no_price : (s : List ℕ) → Outcome book_seven s → (cell s (price_cell 0 2 1) ≡ 0) × (cell s (presence_cell 0 2 1) ≡ 0)
+unfolding book_seven pool_price least_price
 no_price s h = (h.prices 1 (omega arith), h.presences 1 (omega arith))
 
--- a pool with a sale accepted has its price
-a_price : (s : List ℕ) → Outcome book_one s → cell s (amount_cell 2 1 0) ≡ 6 → (cell s (price_cell 2 1 0) ≡ 20) × (cell s (presence_cell 2 1 0) ≡ 1)
-unfolding book_one pool_price highest
-a_price s h e = (rw e at (h.prices 0 (omega arith)), rw e at (h.presences 0 (omega arith)))
+-- a pool has the price of the sale that is not used up
+a_price : (s : List ℕ) → Outcome book_one s → cell s (amount_cell 2 1 0) ≡ 6 → cell s (amount_cell 2 1 1) ≡ 6
+    → (cell s (price_cell 2 1 0) ≡ 20) × (cell s (presence_cell 2 1 0) ≡ 1)
+unfolding book_one pool_price least_price any_to used reaches reaches_over
+a_price s h e f = (rw (e, f) at (h.prices 0 (omega arith)), rw (e, f) at (h.presences 0 (omega arith)))
+
+-- by the sheet's own flows: where the line back carries nothing, pool 2 has no price from pool 1
+by_flows : (s : List ℕ) → Outcome book_two s → cell s (amount_cell 2 2 0) ≡ 3 → cell s (amount_cell 2 2 1) ≡ 3
+    → cell s (flow_cell 2 2 0 1) ≡ 3 → cell s (flow_cell 2 2 1 0) ≡ 0 → cell s (price_cell 2 2 1) ≡ 30
+unfolding book_two pool_price least_price any_to used reaches reaches_over
+by_flows s h e f g k = rw (e, f, g, k) at (h.prices 1 (omega arith))
 
 -- what is opened of a clearing: amounts, flows by rows, price and presence of each pool
 results :
-    clearing_results book_two (record { accepted = λ i. get_or (3 ∷ 4 ∷ []) i 0; flow = λ a b. get_or (5 ∷ 6 ∷ 7 ∷ 8 ∷ []) (a + a + b) 0 })
+    clearing_results book_two (record { accepted = λ i. get_or (3 ∷ 4 ∷ []) i 0; flow = λ a b. get_or (5 ∷ 6 ∷ 0 ∷ 8 ∷ []) (a + a + b) 0 })
     ∷ clearing_results book_five (amounts (4 ∷ 4 ∷ []))
+    ∷ clearing_results book_seven (amounts [])
     ∷ []
-    ≡ (pos 3 ∷ pos 4 ∷ pos 5 ∷ pos 6 ∷ pos 7 ∷ pos 8 ∷ pos 20 ∷ pos 1 ∷ pos 0 ∷ pos 0 ∷ [])
-    ∷ (pos 4 ∷ pos 4 ∷ pos 0 ∷ neg_ℤ (pos 10) ∷ pos 1 ∷ [])
+    ≡ (pos 3 ∷ pos 4 ∷ pos 5 ∷ pos 6 ∷ pos 0 ∷ pos 8 ∷ pos 20 ∷ pos 1 ∷ pos 30 ∷ pos 1 ∷ [])
+    ∷ (pos 4 ∷ pos 4 ∷ pos 0 ∷ neg_ℤ (pos 20) ∷ pos 1 ∷ [])
+    ∷ (pos 0 ∷ pos 0 ∷ pos 0 ∷ pos 0 ∷ pos 0 ∷ pos 0 ∷ pos 0 ∷ pos 0 ∷ [])
     ∷ []
-unfolding book_two book_five clearing_results join_to pool_price highest
+unfolding book_two book_five book_seven clearing_results join_to pool_price least_price any_to used reaches reaches_over
 results = refl
 
 -- ---- clearing, by a plan of three orders that accepts 6 and 6 for example 1

@@ -1,5 +1,5 @@
 -- Sums, tests and lists over an index, tests on whole numbers, and whole numbers as residues.
-use Rattle.std.specs.Prelude.{ℕ, zero, suc, ◌+◌, ◌-◌, Bool, true, false, cond, ◌&&◌, List, [], ◌++◌, ltb, eqb, ℤ, pos, negsuc, ◌+ℤ◌, ◌-ℤ◌}
+use Rattle.std.specs.Prelude.{ℕ, zero, suc, ◌+◌, ◌-◌, Bool, true, false, cond, ◌&&◌, ◌||◌, List, [], ◌++◌, ltb, eqb, ℤ, pos, negsuc, ◌+ℤ◌, ◌-ℤ◌}
 use Rattle.std.specs.Int.Signed.{le_z}
 use Rattle.definitions.specs.Limits.{modulus, greatest_positive}
 
@@ -21,6 +21,11 @@ sum_z (suc n) f = sum_z n f +ℤ f n
 unfoldable pub all_to : ℕ → (ℕ → Bool) → Bool
 all_to zero t = true
 all_to (suc n) t = all_to n t && t n
+
+-- some of t 0, t 1, .., t (n - 1) holds
+unfoldable pub any_to : ℕ → (ℕ → Bool) → Bool
+any_to zero t = false
+any_to (suc n) t = any_to n t || t n
 
 -- the lists f 0, f 1, .., f (n - 1), one after another
 unfoldable pub join_to : {A : Type 0} → ℕ → (ℕ → List A) → List A

@@ -1,8 +1,8 @@
--- Feasible clearings, welfare, the merit order, the best clearing, its flows and prices (document 01, 'The best clearing').
+-- Feasible clearings, welfare, the merit order, the best clearing and its flows (document 01, 'The best clearing').
 -- Nothing here says how a clearing is found.
-use Rattle.std.specs.Prelude.{ℕ, zero, suc, ◌+◌, ◌-◌, ◌≤◌, ◌<◌, ◌≡◌, Bool, true, cond, ◌&&◌, ◌||◌, ltb, ℤ, pos, ◌-ℤ◌, ◌*ℤ◌}
+use Rattle.std.specs.Prelude.{ℕ, ◌+◌, ◌-◌, ◌≤◌, ◌<◌, ◌≡◌, Bool, true, cond, ◌&&◌, ◌||◌, ltb, ℤ, pos, ◌-ℤ◌, ◌*ℤ◌}
 use Rattle.std.specs.Int.Signed.{lt_z}
-use Rattle.definitions.specs.Arithmetic.{on, sum_to, sum_z, eq_z, residue}
+use Rattle.definitions.specs.Arithmetic.{on, sum_to, sum_z, eq_z}
 use Rattle.definitions.specs.Book.{Book, price, purchase, sale, size, in_pool, capacity}
 
 -- A clearing: the accepted amount of each bid, and the flow on each line a to b. "Amounts and flows are whole numbers."
@@ -73,36 +73,3 @@ pub record Best (B : Book) (c : Clearing) : Type 0 where
 pub record Permitted (B : Book) (c : Clearing) : Type 0 where
   pub feasible : Feasible B c
   pub one_way : (a b : ℕ) → a < B.m → b < B.m → 0 < c.flow a b → c.flow b a ≡ 0
-
--- Bid i is among "the pool's sales accepted above 0"
-abbrev pub sells : Book → (ℕ → ℕ) → (p i : ℕ) → Bool
-sells B accepted p i = sale B i && (in_pool B p i && ltb 0 (accepted i))
-
--- A pool's price, or that it has none
-pub data PoolPrice : Type 0 where
-  missing : PoolPrice
-  present : ℤ → PoolPrice
-
--- the higher of a price, if there is one, and another
-abbrev pub higher : PoolPrice → ℤ → PoolPrice
-higher missing z = present z
-higher (present y) z = present (cond (lt_z y z) z y)
-
--- the highest limit price among the first k bids that sell in the pool
-unfoldable pub highest : Book → (ℕ → ℕ) → (p k : ℕ) → PoolPrice
-highest B accepted p zero = missing
-highest B accepted p (suc k) = cond (sells B accepted p k) (higher (highest B accepted p k) (price B k)) (highest B accepted p k)
-
--- "Pool price: the highest limit price among the pool's sales accepted above 0"
-unfoldable pub pool_price : Book → (ℕ → ℕ) → ℕ → PoolPrice
-pool_price B accepted p = highest B accepted p B.n
-
--- "with none, both cells are 0": its price cell
-abbrev pub price_residue : PoolPrice → ℕ
-price_residue missing = 0
-price_residue (present z) = residue z
-
--- "a presence cell (1 present, 0 missing)"
-abbrev pub presence : PoolPrice → ℕ
-presence missing = 0
-presence (present z) = 1

@@ -36,12 +36,12 @@ book_seven = book 0 2 [] (pos 0 ∷ pos 7 ∷ pos 7 ∷ pos 0 ∷ [])
 unfoldable pub text_two : List ℕ
 text_two = 50 ∷ 32 ∷ 50 ∷ 32 ∷ 49 ∷ 32 ∷ 50 ∷ 48 ∷ 32 ∷ 45 ∷ 49 ∷ 48 ∷ 32 ∷ 50 ∷ 32 ∷ 51 ∷ 48 ∷ 32 ∷ 54 ∷ 32 ∷ 48 ∷ 32 ∷ 51 ∷ 32 ∷ 48 ∷ 32 ∷ 48 ∷ []
 
--- "it prints, in full": `bid 1 3`, `bid 2 3`, `line 1 2 3`, `price 1 20`, `price 2 none`, `welfare 30`, each on a line
+-- "it prints, in full", with the prices of request 4, "20 and 30": `bid 1 3`, `bid 2 3`, `line 1 2 3`, `price 1 20`, `price 2 30`, `welfare 30`, each on a line
 unfoldable pub printed_two : List ℕ
 printed_two =
     98 ∷ 105 ∷ 100 ∷ 32 ∷ 49 ∷ 32 ∷ 51 ∷ 10
     ∷ 98 ∷ 105 ∷ 100 ∷ 32 ∷ 50 ∷ 32 ∷ 51 ∷ 10
     ∷ 108 ∷ 105 ∷ 110 ∷ 101 ∷ 32 ∷ 49 ∷ 32 ∷ 50 ∷ 32 ∷ 51 ∷ 10
     ∷ 112 ∷ 114 ∷ 105 ∷ 99 ∷ 101 ∷ 32 ∷ 49 ∷ 32 ∷ 50 ∷ 48 ∷ 10
-    ∷ 112 ∷ 114 ∷ 105 ∷ 99 ∷ 101 ∷ 32 ∷ 50 ∷ 32 ∷ 110 ∷ 111 ∷ 110 ∷ 101 ∷ 10
+    ∷ 112 ∷ 114 ∷ 105 ∷ 99 ∷ 101 ∷ 32 ∷ 50 ∷ 32 ∷ 51 ∷ 48 ∷ 10
     ∷ 119 ∷ 101 ∷ 108 ∷ 102 ∷ 97 ∷ 114 ∷ 101 ∷ 32 ∷ 51 ∷ 48 ∷ 10 ∷ []

@@ -4,6 +4,7 @@ pub mod Arithmetic
 pub mod Book
 pub mod Sheet
 pub mod Clearing
+pub mod PoolPrice
 pub mod Machine
 pub mod Answers
 pub mod Bytes

@@ -4,7 +4,8 @@ use Rattle.definitions.specs.Limits.{cell_count}
 use Rattle.definitions.specs.Arithmetic.{join_to}
 use Rattle.definitions.specs.Book.{Book}
 use Rattle.definitions.specs.Sheet.{sealed_sheet, first_result, amount_cell, flow_cell, price_cell, presence_cell, first_scratch}
-use Rattle.definitions.specs.Clearing.{Clearing, Best, Permitted, welfare, PoolPrice, missing, present, pool_price, price_residue, presence}
+use Rattle.definitions.specs.Clearing.{Clearing, Best, Permitted, welfare}
+use Rattle.definitions.specs.PoolPrice.{PoolPrice, missing, present, pool_price, price_residue, presence}
 use Rattle.definitions.specs.Machine.{cell, run_of}
 use Rattle.definitions.specs.Answers.{unless}
 use Rattle.definitions.specs.Calls.{seal_refusal}
@@ -18,14 +19,14 @@ result_of B s = record {
 }
 
 -- "After the whole plan, run from a sealed sheet, input cells are as sealed, the result cells hold the best clearing's accepted amounts,
--- with flows and pool prices as said under The best clearing, and scratch is 0."
+-- with flows and pool prices as said under The best clearing, and scratch is 0." The prices go by the sheet's own flows.
 pub record Outcome (B : Book) (s : List ℕ) : Type 0 where
   pub cells : length s ≡ cell_count
   pub inputs : (c : ℕ) → c < first_result B.n B.m → cell s c ≡ cell (sealed_sheet B) c
   pub best : Best B (result_of B s)
   pub permitted : Permitted B (result_of B s)
-  pub prices : (p : ℕ) → p < B.m → cell s (price_cell B.n B.m p) ≡ price_residue (pool_price B (result_of B s).accepted p)
-  pub presences : (p : ℕ) → p < B.m → cell s (presence_cell B.n B.m p) ≡ presence (pool_price B (result_of B s).accepted p)
+  pub prices : (p : ℕ) → p < B.m → cell s (price_cell B.n B.m p) ≡ price_residue (pool_price B (result_of B s) p)
+  pub presences : (p : ℕ) → p < B.m → cell s (presence_cell B.n B.m p) ≡ presence (pool_price B (result_of B s) p)
   pub scratch : (c : ℕ) → first_scratch B.n B.m ≤ c → cell s c ≡ 0
 
 -- a pool's two results as they are opened, its price and its presence; "with none, both cells are 0"
@@ -39,7 +40,7 @@ unfoldable pub clearing_results : Book → Clearing → List ℤ
 clearing_results B c =
     join_to B.n (λ i. pos (c.accepted i) ∷ [])
     ++ (join_to B.m (λ a. join_to B.m (λ b. pos (c.flow a b) ∷ []))
-    ++ join_to B.m (λ p. price_numbers (pool_price B c.accepted p)))
+    ++ join_to B.m (λ p. price_numbers (pool_price B c p)))
 
 -- demand 3: "at most n × (100 × n + 40 × (m+1)^6) + 10,000"
 abbrev pub order_limit : (n m : ℕ) → ℕ

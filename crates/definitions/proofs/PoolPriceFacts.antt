@@ -1,0 +1,97 @@
+-- Steps, ways and prices on small books, by computation.
+use Rattle.std.proofs.Common.{ℕ, ◌≡◌, refl, true, false, [], ◌∷◌, pos, neg_ℤ}
+use Rattle.definitions.specs.Arithmetic.{any_to}
+use Rattle.definitions.specs.Book.{Book, book}
+use Rattle.definitions.specs.Examples.{book_one, book_two, book_four, book_five}
+use Rattle.definitions.specs.Clearing.{Clearing, used}
+use Rattle.definitions.specs.PoolPrice.{one_step, reaches_over, reaches, least_price, missing, present, pool_price}
+use Rattle.definitions.proofs.ClearingFacts.{listed, merit}
+
+-- ---- one step: a line full to its last unit, one of capacity 0, and back along a line that carries something
+
+-- two pools, a line each way that carries 7
+both_lines : Book
+both_lines = book 0 2 [] (pos 0 ∷ pos 7 ∷ pos 7 ∷ pos 0 ∷ [])
+
+steps :
+    one_step both_lines (listed 2 [] (0 ∷ 6 ∷ 0 ∷ 0 ∷ [])).flow 0 1
+    ∷ one_step both_lines (listed 2 [] (0 ∷ 7 ∷ 0 ∷ 0 ∷ [])).flow 0 1
+    ∷ one_step both_lines (listed 2 [] (0 ∷ 7 ∷ 1 ∷ 0 ∷ [])).flow 0 1
+    ∷ one_step book_two (listed 2 [] (0 ∷ 3 ∷ 0 ∷ 0 ∷ [])).flow 0 1
+    ∷ one_step book_two (listed 2 [] (0 ∷ 3 ∷ 0 ∷ 0 ∷ [])).flow 1 0
+    ∷ one_step book_two (listed 2 [] (0 ∷ 0 ∷ 0 ∷ 0 ∷ [])).flow 1 0
+    ∷ []
+    ≡ true ∷ false ∷ true ∷ false ∷ true ∷ false ∷ []
+unfolding both_lines book_two
+steps = refl
+
+-- ---- ways: four pools, lines 1 to 4, 4 to 3 and 3 to 2 carry 4, the first two are empty, the last carries 4: it leads back alone
+
+row : Book
+row =
+    book 0 4 []
+    (pos 0 ∷ pos 0 ∷ pos 0 ∷ pos 4 ∷ pos 0 ∷ pos 0 ∷ pos 0 ∷ pos 0 ∷ pos 0 ∷ pos 4 ∷ pos 0 ∷ pos 0 ∷ pos 0 ∷ pos 0 ∷ pos 4 ∷ pos 0 ∷ [])
+
+-- so many of the last line's 4
+abbrev carried : ℕ → ℕ → ℕ → ℕ
+carried k = (listed 4 [] (0 ∷ 0 ∷ 0 ∷ 0 ∷ 0 ∷ 0 ∷ 0 ∷ 0 ∷ 0 ∷ k ∷ 0 ∷ 0 ∷ 0 ∷ 0 ∷ 0 ∷ 0 ∷ [])).flow
+
+-- pool 1 reaches pool 2 in three steps while the last line is not full; itself by none; none of the others reaches it
+ways :
+    reaches row (carried 3) 0 1 ∷ reaches row (carried 4) 0 1 ∷ reaches row (carried 4) 0 2
+    ∷ reaches row (carried 4) 1 2 ∷ reaches row (carried 0) 1 2
+    ∷ reaches row (carried 4) 0 0 ∷ reaches row (carried 3) 1 0 ∷ reaches row (carried 3) 2 0 ∷ reaches row (carried 3) 3 0
+    ∷ []
+    ≡ true ∷ false ∷ true ∷ true ∷ false ∷ true ∷ false ∷ false ∷ false ∷ []
+unfolding row reaches reaches_over
+ways = refl
+
+-- ---- prices in one pool: what is left of a sale, what a purchase takes, nothing of a withdrawn bid
+
+pool_prices :
+    pool_price book_one (listed 1 (6 ∷ 6 ∷ []) []) 0
+    ∷ pool_price book_four (listed 1 (5 ∷ 4 ∷ 1 ∷ []) []) 0
+    ∷ pool_price book_five (listed 1 [] []) 0
+    ∷ pool_price book_five (listed 1 (4 ∷ 4 ∷ []) []) 0
+    ∷ pool_price merit (listed 1 [] []) 0
+    ∷ pool_price merit (listed 1 (0 ∷ 0 ∷ 1 ∷ 4 ∷ 5 ∷ 0 ∷ []) []) 0
+    ∷ pool_price merit (listed 1 (5 ∷ 5 ∷ 1 ∷ 4 ∷ 5 ∷ 0 ∷ []) []) 0
+    ∷ pool_price merit (listed 1 (5 ∷ 5 ∷ 0 ∷ 0 ∷ 5 ∷ 0 ∷ []) []) 0
+    ∷ []
+    ≡ present (pos 20) ∷ present (pos 30) ∷ present (neg_ℤ (pos 10)) ∷ present (neg_ℤ (pos 20))
+    ∷ present (pos 10) ∷ present (pos 30) ∷ present (pos 30) ∷ missing ∷ []
+unfolding book_one book_four book_five merit pool_price least_price any_to used reaches reaches_over
+pool_prices = refl
+
+-- ---- and in several: bids of pools that reach the pool, not of those that it reaches
+
+-- example 2: "the prices become 20 and 30"
+stated_prices : pool_price book_two (listed 2 (3 ∷ 3 ∷ []) (0 ∷ 3 ∷ 0 ∷ 0 ∷ [])) 0 ∷ pool_price book_two (listed 2 (3 ∷ 3 ∷ []) (0 ∷ 3 ∷ 0 ∷ 0 ∷ [])) 1 ∷ []
+    ≡ present (pos 20) ∷ present (pos 30) ∷ []
+unfolding book_two pool_price least_price any_to used reaches reaches_over
+stated_prices = refl
+
+-- lines 1 to 2, 2 to 4, 1 to 3 and 3 to 4 carry 4; (1,10,−4), (2,20,−5), (4,30,8). 4 are sent by pool 3, 4 from pool 2: line 1 to 2 is open, 2 to 4 is full
+three_ways : Book
+three_ways =
+    book 3 4 (pos 1 ∷ pos 10 ∷ neg_ℤ (pos 4) ∷ pos 2 ∷ pos 20 ∷ neg_ℤ (pos 5) ∷ pos 4 ∷ pos 30 ∷ pos 8 ∷ [])
+    (pos 0 ∷ pos 4 ∷ pos 4 ∷ pos 0 ∷ pos 0 ∷ pos 0 ∷ pos 0 ∷ pos 4 ∷ pos 0 ∷ pos 0 ∷ pos 0 ∷ pos 4 ∷ pos 0 ∷ pos 0 ∷ pos 0 ∷ pos 0 ∷ [])
+
+abbrev sent : Clearing
+sent = listed 4 (4 ∷ 4 ∷ 8 ∷ []) (0 ∷ 0 ∷ 4 ∷ 0 ∷ 0 ∷ 0 ∷ 0 ∷ 4 ∷ 0 ∷ 0 ∷ 0 ∷ 4 ∷ 0 ∷ 0 ∷ 0 ∷ 0 ∷ [])
+
+sent_prices :
+    pool_price three_ways sent 0 ∷ pool_price three_ways sent 1 ∷ pool_price three_ways sent 2 ∷ pool_price three_ways sent 3 ∷ []
+    ≡ present (pos 30) ∷ present (pos 20) ∷ present (pos 30) ∷ present (pos 30) ∷ []
+unfolding three_ways pool_price least_price any_to used reaches reaches_over
+sent_prices = refl
+
+-- a sale that no pool can be sent but its own and the next
+one_sale : Book
+one_sale = book 1 3 (pos 2 ∷ neg_ℤ (pos 7) ∷ neg_ℤ (pos 1) ∷ []) (pos 0 ∷ pos 9 ∷ pos 0 ∷ pos 0 ∷ pos 0 ∷ pos 1 ∷ pos 0 ∷ pos 0 ∷ pos 0 ∷ [])
+
+reached_prices :
+    pool_price one_sale (listed 3 [] []) 0 ∷ pool_price one_sale (listed 3 [] []) 1 ∷ pool_price one_sale (listed 3 [] []) 2 ∷ []
+    ≡ missing ∷ present (neg_ℤ (pos 7)) ∷ present (neg_ℤ (pos 7)) ∷ []
+unfolding one_sale pool_price least_price any_to used reaches reaches_over
+reached_prices = refl
