@@ -1,8 +1,9 @@
--- The least and the greatest of a function over an index.
-use Rattle.std.specs.Prelude.{◌≡◌, refl, ◌⊎◌, ℕ, zero, suc, ◌≤◌, ◌<◌, min, max}
-use Rattle.std.proofs.Common.{ap, ap₂, inl, inr, arith, eq-or-lt_of_le}
+-- The least and the greatest of a function over an index, and the greatest of numbers in groups (`max_of_groups`).
+use Rattle.std.specs.Prelude.{◌≡◌, refl, Bool, true, false, ◌⊎◌, ℕ, zero, suc, ◌≤◌, ◌<◌, min, max, eqb}
+use Rattle.std.proofs.Common.{ap, ap₂, ◌∙◌, inl, inr, arith, eq-or-lt_of_le, eqb-true, eq-eqb}
 use Rattle.std.proofs.Math.Nat.{suc_inj}
 use Rattle.std.proofs.Math.Decide.{dec_le}
+use Rattle.definitions.specs.Arithmetic.{on}
 
 -- the least of d and f 0, .., f (k - 1).
 unfoldable pub min_to : ℕ → ℕ → (ℕ → ℕ) → ℕ
@@ -47,3 +48,54 @@ pub max_ext : (k : ℕ) (f h : ℕ → ℕ) → ((i : ℕ) → i < k → f i ≡
 unfolding max_to
 max_ext zero f h e = refl
 max_ext (suc k) f h e = ap₂ max (max_ext k f h (λ i l. e i (omega arith))) (e k (omega arith))
+
+pub max_ge_at : (k : ℕ) (f : ℕ → ℕ) (i : ℕ) → i < k → f i ≤ max_to k f
+unfolding max_to
+max_ge_at zero f i l = absurd (omega arith)
+max_ge_at (suc k) f i l = go (eq-or-lt_of_le l) (λ l'. max_ge_at k f i l')
+  where
+    go : (suc i ≡ suc k) ⊎ (suc i < suc k) → (i < k → f i ≤ max_to k f) → f i ≤ max (max_to k f) (f k)
+    go (inl p) ih = omega (arith, ap f (suc_inj p))
+    go (inr p) ih = omega (arith, ih (omega arith))
+
+pub max_below : (k : ℕ) (f : ℕ → ℕ) (b : ℕ) → ((i : ℕ) → i < k → f i ≤ b) → max_to k f ≤ b
+unfolding max_to
+max_below zero f b h = omega arith
+max_below (suc k) f b h = omega (arith, max_below k f b (λ i l. h i (omega arith)), h k (omega arith))
+
+-- n numbers v in m groups: the greatest over the groups that pass a test of the greatest in each is the greatest of those whose group passes it
+module _ (n m : ℕ) (group v : ℕ → ℕ) (t : ℕ → Bool) (below : (i : ℕ) → i < n → group i < m) where
+  -- the greatest in a group
+  abbrev of_group : ℕ → ℕ
+  of_group q = max_to n (λ i. on (eqb (group i) q) (v i))
+
+  by_groups : ℕ
+  by_groups = max_to m (λ q. on (t q) (of_group q))
+
+  by_numbers : ℕ
+  by_numbers = max_to n (λ i. on (t (group i)) (v i))
+
+  on_below : (x : Bool) (u b : ℕ) → (x ≡ true → u ≤ b) → on x u ≤ b
+  on_below true u b h = h refl
+  on_below false u b h = omega arith
+
+  number_below : (i : ℕ) → i < n → on (t (group i)) (v i) ≤ by_groups
+  unfolding by_groups
+  number_below i l =
+      on_below (t (group i)) (v i) by_groups (λ e.
+      let in-all = max_ge_at m (λ q. on (t q) (of_group q)) (group i) (below i l) in
+      let in-group = max_ge_at n (λ j. on (eqb (group j) (group i)) (v j)) i l in
+      omega (arith, rw e at in-all, rw (eq-eqb (group i) (group i) refl) at in-group))
+
+  group_below : (q : ℕ) → q < m → on (t q) (of_group q) ≤ by_numbers
+  unfolding by_numbers
+  group_below q _ =
+      on_below (t q) (of_group q) by_numbers (λ e. max_below n (λ i. on (eqb (group i) q) (v i)) by_numbers (λ i l.
+      on_below (eqb (group i) q) (v i) by_numbers (λ z.
+      let same : t (group i) ≡ true = ap t (eqb-true (group i) q z) ∙ e in
+      let in-all = max_ge_at n (λ j. on (t (group j)) (v j)) i l in
+      omega (arith, rw same at in-all))))
+
+  pub max_of_groups : max_to m (λ q. on (t q) (max_to n (λ i. on (eqb (group i) q) (v i)))) ≡ max_to n (λ i. on (t (group i)) (v i))
+  unfolding by_groups by_numbers
+  max_of_groups = omega (arith, max_below m (λ q. on (t q) (of_group q)) by_numbers group_below, max_below n (λ i. on (t (group i)) (v i)) by_groups number_below)

@@ -3,6 +3,7 @@ pub mod Tests
 pub mod Rows
 pub mod Sum
 pub mod All
+pub mod Any
 pub mod Extremes
 pub mod SignedTests
 pub mod BidTable

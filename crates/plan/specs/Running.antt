@@ -1,10 +1,10 @@
 -- Loops that add up in a cell (`gather`), lower it to a least or raise it to a greatest number, and that sum over all subsets (`subset_sums`).
 use Rattle.std.specs.Prelude.{◌≡◌, refl, Bool, true, false, List, [], ◌∷◌, ℕ, zero, suc, ◌+◌, ◌≤◌, ◌<◌, min, max, eqb}
-use Rattle.std.proofs.Common.{ap, ◌∙◌, le_refl, arith}
+use Rattle.std.proofs.Common.{ap, ◌∙◌, arith}
 use Rattle.definitions.specs.Limits.{modulus, greatest_positive}
 use Rattle.definitions.specs.Arithmetic.{sum_to}
 use Rattle.laws.specs.Sum.{sum_prefix}
-use Rattle.laws.specs.Extremes.{min_to, max_to, min_le_start}
+use Rattle.laws.specs.Extremes.{min_to, max_to, min_le_start, max_below}
 use Rattle.plan.specs.Orders.{OrderOn, constant, sum, difference, product, less, State, run}
 use Rattle.plan.specs.Loops.{loop, loop_invariant, among, writes, same_self}
 use Rattle.plan.specs.Names.{Name, Subsets, Temporary, Subset}
@@ -66,11 +66,6 @@ lower J c n f v turn s j b =
     (λ i t l ih.
     let r : J (run (f i) t) × (run (f i) t c ≡ min (t c) (v i)) = turn i l t ih.0 (omega (arith, ih.1, min_le_start (s c) i v)) in
     (r.0, r.1 ∙ ap (λ (x : ℕ). min x (v i)) ih.1))
-
-pub max_below : (k : ℕ) (f : ℕ → ℕ) (b : ℕ) → ((i : ℕ) → i < k → f i ≤ b) → max_to k f ≤ b
-unfolding max_to
-max_below zero f b h = omega arith
-max_below (suc k) f b h = omega (arith, max_below k f b (λ i l. h i (omega arith)), h k (le_refl (suc k)))
 
 -- c takes the greater of c and v
 abbrev pub Raises : (State → Type 0) → Name → List (OrderOn Name) → ℕ → Type 0

@@ -1,17 +1,16 @@
--- The closed forms are a best and permitted clearing with the first flows, and its pool prices; none of their differences is cut off at 0, and every number is small.
+-- The closed forms are a best and permitted clearing with the first flows; none of their differences is cut off at 0, and every number is small.
 use Rattle.std.specs.Prelude.{◌≡◌, Bool, true, false, ◌&&◌, eqb, ltb}
 use Rattle.std.proofs.Common.{refl, sym, ap, ap₂, ◌∙◌, mul-le-mul_right, pow_pos, not, cond, ℕ, zero, suc, ◌+◌, ◌*◌, ◌-◌, ◌≤◌, ◌<◌, ◌/◌, ◌%◌, ◌^◌, min, arith}
-use Rattle.std.proofs.Math.Bool.{and_comm}
 use Rattle.std.proofs.Math.Arith.{digits_div, digits_mod}
 use Rattle.definitions.specs.Limits.{bid_limit, pool_limit, price_limit, quantity_limit, capacity_limit, greatest_positive}
 use Rattle.definitions.specs.Arithmetic.{on, sum_to}
-use Rattle.definitions.specs.Book.{Book, purchase, sale, size, in_pool, capacity}
-use Rattle.definitions.specs.Clearing.{Clearing, Best, Permitted, before, pool_price, price_residue, presence}
+use Rattle.definitions.specs.Book.{Book, purchase, size, capacity}
+use Rattle.definitions.specs.Clearing.{Clearing, Best, Permitted, before}
 use Rattle.definitions.specs.Calls.{AcceptedBook}
 use Rattle.laws.specs.Tests.{on_le}
 use Rattle.laws.specs.Sum.{sum_ext, sum_add, sum_one, sum_bound}
-use Rattle.laws.specs.Extremes.{min_to, min_ext, min_le_start, max_ext}
-use Rattle.laws.specs.AcceptedBook.{Sound, accepted_sound, pool_index, in_pool_lem}
+use Rattle.laws.specs.Extremes.{min_to, min_ext, min_le_start}
+use Rattle.laws.specs.AcceptedBook.{Sound, accepted_sound, pool_index}
 use Rattle.theory.specs.Network.{◌adding◌}
 use Rattle.theory.specs.Choices.{on_add, on_on, on_and}
 use Rattle.theory.specs.Subsets.{member}
@@ -29,8 +28,7 @@ use Rattle.theory.specs.FlowOrder.{FirstFlows}
 use Rattle.theory.specs.SameClearing.{best_same, permitted_same, first_flows_same}
 use Rattle.theory.specs.CutClearing.{cut_used, cut_clearing, within_cuts, cut_best, cut_permitted}
 use Rattle.theory.specs.BestClearing.{best_unique}
-use Rattle.theory.specs.PoolPrice.{greatest_of, greatest_sale, pool_price_same, price_by_greatest, presence_by_greatest, greatest_sale_small}
-use Rattle.theory.specs.ClosedForms.{leaves, subset_sum, positive_price, key, pool_size, demand, cut, size_before, size_with, cost, rank, used_amount, accepted_amount, placement, slack, rest_of, flow_of, taken_of, slack_after, line_flow, closed_clearing, offer, highest_offer, closed_price, closed_presence}
+use Rattle.theory.specs.ClosedForms.{leaves, subset_sum, positive_price, key, pool_size, demand, cut, size_before, size_with, cost, rank, used_amount, accepted_amount, placement, slack, rest_of, flow_of, taken_of, slack_after, line_flow, closed_clearing}
 use Rattle.theory.specs.ClosedBest.{size_total, amount_limit}
 use Rattle.theory.proofs.CutClearing.{cut_first_flows}
 
@@ -50,11 +48,6 @@ taken_sum false false r f = refl
 
 taken_less : (s t : Bool) (y r f : ℕ) → y - cond (s && not t) r (on (t && not s) f) ≡ y - on (s && not t) r - on (not s && t) f
 taken_less s t y r f = omega (arith, taken_sum s t r f)
-
-sale_one : (s t u i : Bool) (v : ℕ) → i ≡ t → on t (on (u && s) v) ≡ on (s && (i && u)) v
-sale_one s true u i v e = rw e (ap (λ (t : Bool). on t v) (and_comm u s))
-sale_one true false u i v e = rw e refl
-sale_one false false u i v e = refl
 
 module _ (B : Book) (ok : Sound B) where
   -- ---- merit by keys
@@ -150,7 +143,7 @@ module _ (B : Book) (ok : Sound B) where
   rank_with : (i : ℕ) → i < B.n → rank B (size_with B i) ≡ ranks.rank (network_of B) (greatest.ahead (before B) i adding i)
   rank_with i l = rank_is (greatest.ahead (before B) i adding i) (size_with B i) (λ S. size_with_cost i S l)
 
-  used_is_cut : (i : ℕ) → i < B.n → used_amount B i ≡ cut_used B i
+  pub used_is_cut : (i : ℕ) → i < B.n → used_amount B i ≡ cut_used B i
   unfolding used_amount greatest.best_used
   used_is_cut i l = ap₂ (λ (u v : ℕ). u - v) (rank_with i l) (rank_before i)
 
@@ -242,16 +235,6 @@ module _ (B : Book) (ok : Sound B) where
   slack_small zero S = omega (arith, cut_small S)
   slack_small (suc k) S = omega (arith, slack_small k S)
 
-  -- ---- pool prices
-
-  pub highest_offer_is : (p : ℕ) → highest_offer B p ≡ greatest_sale B (λ i. accepted_amount B i) p
-  unfolding highest_offer offer greatest_of
-  highest_offer_is p =
-      max_ext B.n _ _ (λ i l. sale_one (sale B i) (eqb (pool_index B i) p) (ltb 0 (accepted_amount B i)) (in_pool B p i) (positive_price B i) (in_pool_lem B ok p i l))
-
-  pub highest_offer_small : (p : ℕ) → highest_offer B p ≤ 2 * price_limit + 1
-  highest_offer_small p = omega (arith, highest_offer_is p, greatest_sale_small B ok (λ i. accepted_amount B i) p)
-
 -- ---- the closed forms are a best clearing
 
 pub closed_best : (B : Book) → AcceptedBook B → Best B (closed_clearing B) × Permitted B (closed_clearing B) × FirstFlows B (closed_clearing B)
@@ -279,12 +262,3 @@ closed_clearing_lem B h c e f =
 -- every best clearing accepts what the closed forms accept
 pub closed_accepted : (B : Book) → AcceptedBook B → (c : Clearing) → Best B c → (i : ℕ) → i < B.n → c.accepted i ≡ accepted_amount B i
 closed_accepted B h c b i l = best_unique B h c (closed_clearing B) b (closed_best B h).0 i l
-
--- and has the pool prices that the closed forms give
-pub closed_price_lem : (B : Book) → AcceptedBook B → (c : Clearing) → Best B c → (p : ℕ)
-    → (price_residue (pool_price B c.accepted p) ≡ closed_price B p) × (presence (pool_price B c.accepted p) ≡ closed_presence B p)
-closed_price_lem B h c b p =
-    let ok = accepted_sound B h in
-    let same = pool_price_same B c.accepted (λ i. accepted_amount B i) p (closed_accepted B h c b) in
-    rw (highest_offer_is B ok p)
-    (ap price_residue same ∙ price_by_greatest B ok (λ i. accepted_amount B i) p, ap presence same ∙ presence_by_greatest B ok (λ i. accepted_amount B i) p)

@@ -2,6 +2,7 @@
 pub mod Dictionary
 pub mod CutClearing
 pub mod BestClearing
-pub mod PoolPrice
 pub mod ClosedBest
+pub mod Ways
 pub mod Reachable
+pub mod PoolPrice

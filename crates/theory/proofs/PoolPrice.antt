@@ -1,14 +1,28 @@
--- The pool price is the highest limit price among the pool's sales accepted above 0.
-use Rattle.std.specs.Prelude.{◌≡◌, Bool, true, false, cond, ◌⊎◌}
-use Rattle.std.proofs.Common.{refl, sym, ◌∙◌, subst, true≢false, inl, inr, arith, eq-or-lt_of_le, ℕ, zero, suc, ◌<◌}
+-- The pool price is the least limit price of the bids that supply the pool (`pool_price_is`). Of a best clearing it does not depend on the flows
+-- (`price_of_flows`), and the closed forms give its cells (`closed_price_lem`).
+use Rattle.std.specs.Prelude.{◌≡◌, Bool, true, false, cond, ◌&&◌, ltb, ◌⊎◌, ℕ, zero, suc, ◌<◌}
+use Rattle.std.proofs.Common.{refl, sym, ap, ap₂, ◌∙◌, subst, true≢false, inl, inr, arith, eq-or-lt_of_le}
 use Rattle.std.proofs.Math.Nat.{suc_inj}
 use Rattle.std.specs.Int.Signed.{lt_z, ≤ℤ_refl}
-use Rattle.definitions.specs.Book.{Book, price}
-use Rattle.definitions.specs.Clearing.{PoolPrice, present, higher, highest, pool_price, sells}
-use Rattle.theory.specs.Integers.{le_less, not_less}
-use Rattle.theory.specs.PoolPrice.{HighestPrice, none, some}
+use Rattle.definitions.specs.Arithmetic.{on}
+use Rattle.definitions.specs.Book.{Book, price, size, in_pool}
+use Rattle.definitions.specs.Clearing.{Clearing, Feasible, Best}
+use Rattle.definitions.specs.PoolPrice.{PoolPrice, present, lower, least_price, supplies, reaches, pool_price, price_residue, presence}
+use Rattle.definitions.specs.Calls.{AcceptedBook}
+use Rattle.laws.specs.Any.{any_to_one}
+use Rattle.laws.specs.Extremes.{max_to, max_ext, max_of_groups}
+use Rattle.laws.specs.AcceptedBook.{Sound, accepted_sound, pool_index, in_pool_lem}
+use Rattle.theory.specs.Choices.{on_on, on_and}
+use Rattle.theory.specs.Integers.{less_le, not_less}
+use Rattle.theory.specs.CutClearing.{best_used_lem}
+use Rattle.theory.specs.ClosedForms.{used_amount, reached, price_margin, margin, pool_margin, best_margin, closed_price, closed_presence, supplied}
+use Rattle.theory.specs.PoolPrice.{LeastPrice, none, some, least_price_ext, least_price_cells}
+use Rattle.theory.proofs.ClosedBest.{used_is_cut}
+use Rattle.theory.proofs.Reachable.{reaches_closed}
 
-module _ (B : Book) (accepted : ℕ → ℕ) (p : ℕ) where
+-- ---- the least limit price
+
+module _ (B : Book) (test : ℕ → Bool) where
   -- what holds below k and at k holds below k + 1
   all_below : {A : ℕ → Type 0} (k : ℕ) → ((i : ℕ) → i < k → A i) → A k → (i : ℕ) → i < suc k → A i
   all_below {A} k h a i l = go (eq-or-lt_of_le l)
@@ -17,28 +31,65 @@ module _ (B : Book) (accepted : ℕ → ℕ) (p : ℕ) where
       go (inl e) = subst A (sym (suc_inj e)) a
       go (inr e) = h i (omega arith)
 
-  at_false : (k : ℕ) {A : Type 0} → sells B accepted p k ≡ false → sells B accepted p k ≡ true → A
+  at_false : (k : ℕ) {A : Type 0} → test k ≡ false → test k ≡ true → A
   at_false k e f = absurd (true≢false (sym f ∙ e))
 
-  highest_next : (k : ℕ) (t : Bool) → sells B accepted p k ≡ t → {x : PoolPrice} → HighestPrice B accepted p k x
-      → HighestPrice B accepted p (suc k) (cond t (higher x (price B k)) x)
-  highest_next k false e (none h) = none (all_below k h e)
-  highest_next k false e (some i l s h) = some i (omega arith) s (all_below k h (λ q. at_false k e q))
-  highest_next k true e (none h) = some k (omega arith) e (all_below k (λ j r q. at_false j (h j r) q) (λ q. ≤ℤ_refl (price B k)))
-  highest_next k true e (some i l s h) = go (lt_z (price B i) (price B k)) refl
+  least_next : (k : ℕ) (t : Bool) → test k ≡ t → {x : PoolPrice} → LeastPrice B test k x → LeastPrice B test (suc k) (cond t (lower x (price B k)) x)
+  least_next k false e (none h) = none (all_below k h e)
+  least_next k false e (some i l s h) = some i (omega arith) s (all_below k h (λ q. at_false k e q))
+  least_next k true e (none h) = some k (omega arith) e (all_below k (λ j r q. at_false j (h j r) q) (λ q. ≤ℤ_refl (price B k)))
+  least_next k true e (some i l s h) = go (lt_z (price B k) (price B i)) refl
     where
-      go : (t : Bool) → lt_z (price B i) (price B k) ≡ t → HighestPrice B accepted p (suc k) (present (cond t (price B k) (price B i)))
-      go true q =
-          some k (omega arith) e
-          (all_below k (λ j r f. le_less (price B j) (price B i) (price B k) (h j r f) q) (λ f. ≤ℤ_refl (price B k)))
-      go false q = some i (omega arith) s (all_below k h (λ f. not_less (price B i) (price B k) q))
+      go : (t : Bool) → lt_z (price B k) (price B i) ≡ t → LeastPrice B test (suc k) (present (cond t (price B k) (price B i)))
+      go true q = some k (omega arith) e (all_below k (λ j r f. less_le (price B k) (price B i) (price B j) q (h j r f)) (λ f. ≤ℤ_refl (price B k)))
+      go false q = some i (omega arith) s (all_below k h (λ f. not_less (price B k) (price B i) q))
 
-  highest_upto : (k : ℕ) → HighestPrice B accepted p k (highest B accepted p k)
-  unfolding highest
-  highest_upto zero = none (λ i l. absurd (omega arith))
-  highest_upto (suc k) = highest_next k (sells B accepted p k) refl (highest_upto k)
+  least_upto : (k : ℕ) → LeastPrice B test k (least_price B test k)
+  unfolding least_price
+  least_upto zero = none (λ i l. absurd (omega arith))
+  least_upto (suc k) = least_next k (test k) refl (least_upto k)
 
-  -- "the highest limit price among the pool's sales accepted above 0"
-  pub pool_price_is : HighestPrice B accepted p B.n (pool_price B accepted p)
+-- "the least limit price among bids with used amount below their size, in a pool from which the pool in question can be reached"
+pub pool_price_is : (B : Book) (c : Clearing) (p : ℕ) → LeastPrice B (supplies B c p) B.n (pool_price B c p)
+unfolding pool_price
+pool_price_is B c p = least_upto B (supplies B c p) B.n
+
+-- ---- of a best clearing
+
+module _ (B : Book) (h : AcceptedBook B) (c : Clearing) (b : Best B c) (p : ℕ) (r : p < B.m) where
+  sound : Sound B
+  sound = accepted_sound B h
+
+  supplies_closed : (i : ℕ) → i < B.n → supplies B c p i ≡ supplied B p i
+  unfolding supplied
+  supplies_closed i l =
+      ap₂ ◌&&◌ (ap (λ (u : ℕ). ltb u (size B i)) (best_used_lem B sound c b i l ∙ sym (used_is_cut B sound i l)))
+      (any_to_one (pool_index B i) (λ q. reaches B c.flow q p) (λ q. in_pool B q i && reaches B c.flow q p) B.m (sound.pool_index_lem i l)
+      (λ q _. ap (λ (x : Bool). x && reaches B c.flow q p) (in_pool_lem B sound q i l))
+      ∙ reaches_closed B h c b (pool_index B i) p (sound.pool_index_lem i l) r)
+
+  -- its prices, without its flows
+  pub closed_pool_price : pool_price B c p ≡ least_price B (supplied B p) B.n
   unfolding pool_price
-  pool_price_is = highest_upto B.n
+  closed_pool_price = least_price_ext B (supplies B c p) (supplied B p) B.n supplies_closed
+
+  best_margin_is : best_margin B p ≡ max_to B.n (λ i. on (supplied B p i) (price_margin B i))
+  unfolding best_margin pool_margin margin supplied
+  best_margin_is =
+      max_of_groups B.n B.m (λ i. pool_index B i) (λ i. on (ltb (used_amount B i) (size B i)) (price_margin B i)) (λ q. reached B q p) sound.pool_index_lem
+      ∙ max_ext B.n _ _ (λ i l.
+      on_on (reached B (pool_index B i) p) (ltb (used_amount B i) (size B i)) (price_margin B i)
+      ∙ sym (on_and (ltb (used_amount B i) (size B i)) (reached B (pool_index B i) p) (price_margin B i)))
+
+  -- and the cells that the closed forms give
+  pub closed_price_lem : (price_residue (pool_price B c p) ≡ closed_price B p) × (presence (pool_price B c p) ≡ closed_presence B p)
+  closed_price_lem = rw (closed_pool_price, best_margin_is) (least_price_cells B sound (supplied B p))
+
+-- all best clearings of a book have the same prices
+pub price_of_best : (B : Book) → AcceptedBook B → (c d : Clearing) → Best B c → Best B d → (p : ℕ) → p < B.m → pool_price B c p ≡ pool_price B d p
+price_of_best B h c d b e p r = closed_pool_price B h c b p r ∙ sym (closed_pool_price B h d e p r)
+
+-- "the price doesn't depend on which permitted flows were chosen": nor on any others with which the best clearing's amounts are feasible
+pub price_of_flows : (B : Book) → AcceptedBook B → (c : Clearing) → Best B c → (f : ℕ → ℕ → ℕ) → Feasible B (record { accepted = c.accepted; flow = f }) → (p : ℕ) → p < B.m
+    → pool_price B (record { accepted = c.accepted; flow = f }) p ≡ pool_price B c p
+price_of_flows B h c b f k p r = price_of_best B h (record { accepted = c.accepted; flow = f }) c (record { feasible = k; greatest = b.greatest }) b p r

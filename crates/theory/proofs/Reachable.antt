@@ -1,10 +1,16 @@
--- Which pools can be reached from which, with the flows of a clearing: exactly those that no set without slack parts. So it does not depend on the flows.
-use Rattle.std.specs.Prelude.{◌≡◌, true, false, ℕ, ◌+◌, ◌*◌, ◌-◌, ◌<◌, ◌/◌, ◌%◌, ◌^◌}
-use Rattle.std.proofs.Common.{sym, ◌∙◌, subst, inl, inr, arith}
+-- Which pools can be reached from which, with the flows of a best clearing: exactly those that no set without slack parts. So it does not depend on the
+-- flows (`reaches_closed`).
+use Rattle.std.specs.Prelude.{◌≡◌, Bool, true, false, not, ◌&&◌, ◌||◌, ◌⊎◌, ltb, ℕ, ◌+◌, ◌*◌, ◌-◌, ◌<◌, ◌/◌, ◌%◌, ◌^◌}
+use Rattle.std.proofs.Common.{refl, sym, ◌∙◌, subst, inl, inr, arith, lt-ltb, ltb-true}
 use Rattle.std.proofs.Math.Arith.{digits_div, digits_mod, digits_lt}
-use Rattle.definitions.specs.Book.{Book}
+use Rattle.std.proofs.lemmas.Bool.{or_left, or_right}
+use Rattle.std.specs.Cmp.{both_ways}
+use Rattle.definitions.specs.Arithmetic.{all_to}
+use Rattle.definitions.specs.Book.{Book, capacity}
 use Rattle.definitions.specs.Clearing.{Clearing, Best}
+use Rattle.definitions.specs.PoolPrice.{one_step, reaches}
 use Rattle.definitions.specs.Calls.{AcceptedBook}
+use Rattle.laws.specs.All.{all_to_at, all_to_made}
 use Rattle.laws.specs.AcceptedBook.{Sound, accepted_sound}
 use Rattle.theory.specs.Subsets.{member, mask, mask_lt, mask_member}
 use Rattle.theory.specs.Network as network
@@ -13,28 +19,48 @@ use Rattle.theory.specs.Balance.{FeasibleUse, feasible_same}
 use Rattle.theory.specs.Slacks as slacks
 use Rattle.theory.specs.Slacks.{amount_in_ext}
 use Rattle.theory.specs.Welfare.{turn, clearing_feasible}
-use Rattle.theory.specs.Reach.{Reach, here, along, back, reach_slack, slack_reach, reach_same}
+use Rattle.theory.specs.Reach.{Reach, here, along, back, reach_slack, slack_reach}
+use Rattle.theory.specs.Choices.{or_cases}
 use Rattle.theory.specs.BookNetwork.{network_of, by_lines, used_is, network_sound, feasible_network}
 use Rattle.theory.specs.CutClearing.{cut_used, best_used_lem}
-use Rattle.theory.specs.ClosedForms.{slack, slack_after}
+use Rattle.theory.specs.ClosedForms.{slack, slack_after, unparted, reached}
 use Rattle.theory.proofs.ClosedBest.{slack_is}
 use Rattle.theory.specs.Reachable.{Reaches, itself, step}
+use Rattle.theory.proofs.Ways.{reaches_says, reaches_made}
 
 module _ (B : Book) (ok : Sound B) (f : ℕ → ℕ → ℕ) (q : ℕ) where
+  -- one step is along a line or back along it
+  by_line : (a b : ℕ) → a < B.m → b < B.m → one_step B f a b ≡ true → Reach (network_of B) (by_lines B f) q a → Reach (network_of B) (by_lines B f) q b
+  by_line a b l r e w = go (or_cases (ltb (f a b) (capacity B a b)) (ltb 0 (f b a)) e)
+    where
+      way : {x y : ℕ} → x ≡ y → Reach (network_of B) (by_lines B f) q x → Reach (network_of B) (by_lines B f) q y
+      way = subst (Reach (network_of B) (by_lines B f) q)
+
+      go : (ltb (f a b) (capacity B a b) ≡ true) ⊎ (ltb 0 (f b a) ≡ true) → Reach (network_of B) (by_lines B f) q b
+      go (inl h) =
+          way (digits_mod a r)
+          (along (a * B.m + b) (digits_lt l r) (rw (digits_div a r, digits_mod a r) (ltb-true (f a b) (capacity B a b) h)) (way (sym (digits_div a r)) w))
+      go (inr h) =
+          way (digits_div b l)
+          (back (b * B.m + a) (digits_lt r l) (rw (digits_div b l, digits_mod b l) (ltb-true 0 (f b a) h)) (way (sym (digits_mod b l)) w))
+
   -- a way by pools is a way by lines
   to_lines : {p : ℕ} → Reaches B f q p → Reach (network_of B) (by_lines B f) q p
   to_lines itself = here
-  to_lines (step a b l r w (inl h)) =
-      subst (Reach (network_of B) (by_lines B f) q) (digits_mod a r)
-      (along (a * B.m + b) (digits_lt l r) (rw (digits_div a r, digits_mod a r) h) (subst (Reach (network_of B) (by_lines B f) q) (sym (digits_div a r)) (to_lines w)))
-  to_lines (step a b l r w (inr h)) =
-      subst (Reach (network_of B) (by_lines B f) q) (digits_div b l)
-      (back (b * B.m + a) (digits_lt r l) (rw (digits_div b l, digits_mod b l) h) (subst (Reach (network_of B) (by_lines B f) q) (sym (digits_mod b l)) (to_lines w)))
+  to_lines (step a b l r w h) = by_line a b l r h (to_lines w)
 
   from_lines : {p : ℕ} → Reach (network_of B) (by_lines B f) q p → Reaches B f q p
   from_lines here = itself
-  from_lines (along j l h w) = step (j / B.m) (j % B.m) ((network_sound B ok).source_below j l) ((network_sound B ok).target_below j l) (from_lines w) (inl h)
-  from_lines (back j l h w) = step (j % B.m) (j / B.m) ((network_sound B ok).target_below j l) ((network_sound B ok).source_below j l) (from_lines w) (inr h)
+  from_lines (along j l h w) =
+      let a : ℕ = j / B.m in
+      let b : ℕ = j % B.m in
+      step a b ((network_sound B ok).source_below j l) ((network_sound B ok).target_below j l) (from_lines w)
+      (or_left (ltb (f a b) (capacity B a b)) (ltb 0 (f b a)) (lt-ltb (f a b) (capacity B a b) h))
+  from_lines (back j l h w) =
+      let a : ℕ = j / B.m in
+      let b : ℕ = j % B.m in
+      step b a ((network_sound B ok).target_below j l) ((network_sound B ok).source_below j l) (from_lines w)
+      (or_right (ltb (f b a) (capacity B b a)) (ltb 0 (f a b)) (lt-ltb 0 (f a b) h))
 
 -- the flows of any feasible clearing with the best clearing's amounts
 module _ (B : Book) (h : AcceptedBook B) (c : Clearing) (b : Best B c) where
@@ -48,7 +74,7 @@ module _ (B : Book) (h : AcceptedBook B) (c : Clearing) (b : Best B c) where
   slack_of S = slack_is B (accepted_sound B h) 0 S
 
   -- pool q reaches pool p exactly if every set that holds q and not p has slack
-  pub reached_slack : (q p : ℕ) → Reaches B c.flow q p → (S : ℕ) → member S q ≡ true → member S p ≡ false → 0 < slack B S
+  reached_slack : (q p : ℕ) → Reaches B c.flow q p → (S : ℕ) → member S q ≡ true → member S p ≡ false → 0 < slack B S
   reached_slack q p r S e f =
       omega (
         arith,
@@ -57,7 +83,7 @@ module _ (B : Book) (h : AcceptedBook B) (c : Clearing) (b : Best B c) where
             e f,
       )
 
-  pub slack_reached : (q p : ℕ) → q < B.m → p < B.m → ((S : ℕ) → S < 2 ^ B.m → member S q ≡ true → member S p ≡ false → 0 < slack B S) → Reaches B c.flow q p
+  slack_reached : (q p : ℕ) → q < B.m → p < B.m → ((S : ℕ) → S < 2 ^ B.m → member S q ≡ true → member S p ≡ false → 0 < slack B S) → Reaches B c.flow q p
   slack_reached q p l r s =
       let ok = accepted_sound B h in
       from_lines B ok c.flow q
@@ -72,9 +98,21 @@ module _ (B : Book) (h : AcceptedBook B) (c : Clearing) (b : Best B c) where
         amount_in_ext (network_of B) (cut_used B) (network_sound B ok) (member k) S same,
       )))
 
--- which pools reach which does not depend on the flows
-pub reaches_same : (B : Book) → AcceptedBook B → (c d : Clearing) → Best B c → Best B d → (q p : ℕ) → Reaches B c.flow q p → Reaches B d.flow q p
-reaches_same B h c d b e q p r =
-    let ok = accepted_sound B h in
-    from_lines B ok d.flow q
-    (reach_same (network_of B) (network_sound B ok) (cut_used B) (by_lines B c.flow) (by_lines B d.flow) (use_feasible B h c b) (use_feasible B h d e) q p (to_lines B ok c.flow q r))
+-- a set's two members and its slack, as tests
+parts_not : (s t v : Bool) → s ≡ true → t ≡ false → (not (s && not t) || v) ≡ true → v ≡ true
+parts_not s t v e g h = rw (e, g) at h
+
+parts : (s t v : Bool) → (s ≡ true → t ≡ false → v ≡ true) → (not (s && not t) || v) ≡ true
+parts true true v h = refl
+parts true false v h = h refl refl
+parts false t v h = refl
+
+-- so it does not depend on the flows: what is computed of them is given by the slacks
+pub reaches_closed : (B : Book) → AcceptedBook B → (c : Clearing) → Best B c → (q p : ℕ) → q < B.m → p < B.m → reaches B c.flow q p ≡ reached B q p
+unfolding reached
+reaches_closed B h c b q p l r =
+    both_ways (reaches B c.flow q p) (all_to (2 ^ B.m) (unparted B q p))
+    (λ e. all_to_made (2 ^ B.m) (unparted B q p) (λ S _.
+    parts (member S q) (member S p) (ltb 0 (slack B S)) (λ x y. lt-ltb 0 (slack B S) (reached_slack B h c b q p (reaches_says B c.flow q p l r e) S x y))))
+    (λ e. reaches_made B c.flow (slack_reached B h c b q p l r (λ S s x y.
+    ltb-true 0 (slack B S) (parts_not (member S q) (member S p) (ltb 0 (slack B S)) x y (all_to_at (2 ^ B.m) (unparted B q p) e S s)))))

@@ -1,9 +1,9 @@
 -- The numbers that a plan computes from a book's numbers, each a sum, a least or a greatest over an index. A set of pools is a number below 2 ^ m.
 -- demand, cut, cost, rank, slack, rest_of and line_flow are here those of a book; Network, Rank and Slacks have them for any network.
-use Rattle.std.specs.Prelude.{ℕ, zero, suc, ◌+◌, ◌-◌, ◌*◌, ◌/◌, ◌%◌, ◌^◌, Bool, not, ◌&&◌, cond, ltb, eqb}
+use Rattle.std.specs.Prelude.{ℕ, zero, suc, ◌+◌, ◌-◌, ◌*◌, ◌/◌, ◌%◌, ◌^◌, Bool, not, ◌&&◌, ◌||◌, cond, ltb, eqb}
 use Rattle.definitions.specs.Limits.{price_limit, greatest_positive}
-use Rattle.definitions.specs.Arithmetic.{on, sum_to}
-use Rattle.definitions.specs.Book.{Book, purchase, sale, size, capacity}
+use Rattle.definitions.specs.Arithmetic.{on, sum_to, all_to}
+use Rattle.definitions.specs.Book.{Book, purchase, size, capacity}
 use Rattle.definitions.specs.Machine.{minus}
 use Rattle.definitions.specs.Clearing.{Clearing, before}
 use Rattle.laws.specs.Extremes.{min_to, max_to}
@@ -100,18 +100,38 @@ module _ (B : Book) where
   abbrev pub closed_clearing : Clearing
   closed_clearing = record { accepted = λ i. accepted_amount i; flow = λ a b. line_flow (a * B.m + b) }
 
-  -- the positive price of a sale accepted above 0, else 0
-  unfoldable pub offer : ℕ → ℕ
-  offer i = on (ltb 0 (accepted_amount i) && sale B i) (positive_price i)
+  -- set S does not part pool q from pool p, or it has slack
+  abbrev pub unparted : (q p S : ℕ) → Bool
+  unparted q p S = not (leaves S q p) || ltb 0 (slack S)
 
-  -- the highest in pool p
-  unfoldable pub highest_offer : ℕ → ℕ
-  highest_offer p = max_to B.n (λ i. on (eqb (pool_index B i) p) (offer i))
+  -- pool q reaches pool p: no set without slack parts them
+  unfoldable pub reached : (q p : ℕ) → Bool
+  reached q p = all_to (2 ^ B.m) (unparted q p)
+
+  -- what the price of bid i leaves to the limit and 1: the less it asks, the more; never 0
+  abbrev pub price_margin : ℕ → ℕ
+  price_margin i = 2 * suc price_limit - positive_price i
+
+  -- this if something of bid i is not used, else 0
+  unfoldable pub margin : ℕ → ℕ
+  margin i = on (ltb (used_amount i) (size B i)) (price_margin i)
+
+  -- the greatest in pool p
+  unfoldable pub pool_margin : ℕ → ℕ
+  pool_margin p = max_to B.n (λ i. on (eqb (pool_index B i) p) (margin i))
+
+  -- the greatest in the pools that reach pool p
+  unfoldable pub best_margin : ℕ → ℕ
+  best_margin p = max_to B.m (λ q. on (reached q p) (pool_margin q))
 
   -- a pool's price cell, 0 if it has none
   abbrev pub closed_price : ℕ → ℕ
-  closed_price p = on (ltb 0 (highest_offer p)) (minus (highest_offer p) (suc price_limit))
+  closed_price p = on (ltb 0 (best_margin p)) (minus (suc price_limit) (best_margin p))
 
   -- its presence cell
   abbrev pub closed_presence : ℕ → ℕ
-  closed_presence p = on (ltb 0 (highest_offer p)) 1
+  closed_presence p = on (ltb 0 (best_margin p)) 1
+
+  -- bid i supplies pool p
+  unfoldable pub supplied : (p i : ℕ) → Bool
+  supplied p i = ltb (used_amount i) (size B i) && reached (pool_index B i) p

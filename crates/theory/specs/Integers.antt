@@ -85,8 +85,8 @@ read_le x y h = go x y h.le
 pub le_antisymmetric : (x y : ℤ) → x ≤ℤ y → y ≤ℤ x → x ≡ y
 le_antisymmetric x y h k = eq_z_true x y (eq_read x y ∙ eq-eqb (positive_part x + negative_part y) (positive_part y + negative_part x) (omega (arith, read_le x y h, read_le y x k)))
 
-pub le_less : (x y z : ℤ) → x ≤ℤ y → lt_z y z ≡ true → x ≤ℤ z
-le_less x y z h e = le_read x z (omega (arith, read_le x y h, ltb-true (positive_part y + negative_part z) (positive_part z + negative_part y) (sym (lt_read y z) ∙ e)))
+pub less_le : (x y z : ℤ) → lt_z x y ≡ true → y ≤ℤ z → x ≤ℤ z
+less_le x y z e h = le_read x z (omega (arith, read_le y z h, ltb-true (positive_part x + negative_part y) (positive_part y + negative_part x) (sym (lt_read x y) ∙ e)))
 
 pub not_less : (x y : ℤ) → lt_z x y ≡ false → y ≤ℤ x
 not_less x y e = le_read y x (omega (arith, ltb-false (positive_part x + negative_part y) (positive_part y + negative_part x) (sym (lt_read x y) ∙ e)))
@@ -103,6 +103,11 @@ raised_by c z h e = omega (arith, add_read z (pos c), ap positive_part e, ap neg
 pub raised_less : (c : ℕ) (x y : ℤ) (h k : ℕ) → RaisedBy c x h → RaisedBy c y k → lt_z x y ≡ ltb h k
 raised_less c x y h k e f =
     lt_read x y ∙ same_less (positive_part x + negative_part y) (positive_part y + negative_part x) h k (omega arith) (lt? (positive_part x + negative_part y) (positive_part y + negative_part x)) (lt? h k)
+
+-- two numbers that h and k raise to c: the lesser is raised by more
+pub raised_by_less : (c : ℕ) (x y : ℤ) (h k : ℕ) → RaisedBy h x c → RaisedBy k y c → lt_z x y ≡ ltb k h
+raised_by_less c x y h k e f =
+    lt_read x y ∙ same_less (positive_part x + negative_part y) (positive_part y + negative_part x) k h (omega arith) (lt? (positive_part x + negative_part y) (positive_part y + negative_part x)) (lt? k h)
 
 pub raised_le : (c : ℕ) (x y : ℤ) (h k : ℕ) → RaisedBy c x h → RaisedBy c y k → x ≤ℤ y → h ≤ k
 raised_le c x y h k e f l = omega (arith, read_le x y l)

@@ -28,8 +28,9 @@ pub mod BestClearing
 pub mod FeasibleNumbers
 pub mod Optimal
 pub mod Dearer
-pub mod PoolPrice
 -- The numbers that a plan computes.
 pub mod ClosedForms
 pub mod ClosedBest
+-- Which pools reach which, and the pool price.
 pub mod Reachable
+pub mod PoolPrice

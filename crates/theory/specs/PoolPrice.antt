@@ -1,96 +1,74 @@
--- The pool price is the highest limit price among the pool's sales accepted above 0, and how a plan computes it: as a greatest of raised prices.
-use Rattle.std.specs.Prelude.{◌≡◌, Bool, true, false, ◌&&◌, cond, ltb, ℤ, pos, negsuc, ◌≤ℤ◌, refl, ℕ, zero, suc, ◌+◌, ◌*◌, ◌≤◌, ◌<◌, max}
-use Rattle.std.proofs.Common.{ap, ap₂, arith, lt-ltb}
+-- The least limit price of the bids that pass a test (`LeastPrice`), and how a plan computes it: as a greatest of what the prices leave to the limit and 1.
+use Rattle.std.specs.Prelude.{◌≡◌, Bool, true, false, cond, ltb, ℤ, pos, negsuc, ◌≤ℤ◌, refl, ℕ, zero, suc, ◌*◌, ◌+◌, ◌≤◌, ◌<◌, max}
+use Rattle.std.proofs.Common.{ap₂, arith, lt-ltb}
 use Rattle.std.specs.Int.Signed.{lt_z}
 use Rattle.definitions.specs.Limits.{price_limit}
 use Rattle.definitions.specs.Arithmetic.{on, residue}
-use Rattle.definitions.specs.Book.{Book, price, sale, in_pool}
+use Rattle.definitions.specs.Book.{Book, price}
 use Rattle.definitions.specs.Machine.{minus}
-use Rattle.definitions.specs.Clearing.{PoolPrice, missing, present, higher, highest, pool_price, sells, price_residue, presence}
+use Rattle.definitions.specs.PoolPrice.{PoolPrice, missing, present, lower, least_price, price_residue, presence}
 use Rattle.laws.specs.Tests.{Lt?, less, more, lt?}
 use Rattle.laws.specs.Extremes.{max_to}
-use Rattle.laws.specs.AcceptedBook.{Sound, raised_price}
-use Rattle.theory.specs.Integers.{RaisedBy, raised_less}
+use Rattle.laws.specs.AcceptedBook.{Sound}
+use Rattle.theory.specs.Integers.{RaisedBy, raised_by_less}
 use Rattle.theory.specs.BookNetwork.{price_raised}
+use Rattle.theory.specs.ClosedForms.{price_margin}
 
--- Among the first k bids: none sells in pool p, or bid i does and none that does has a higher price.
-pub data HighestPrice (B : Book) (accepted : ℕ → ℕ) (p k : ℕ) : PoolPrice → Type 0 where
-  none : ((i : ℕ) → i < k → sells B accepted p i ≡ false) → HighestPrice B accepted p k missing
-  some : (i : ℕ) → i < k → sells B accepted p i ≡ true → ((j : ℕ) → j < k → sells B accepted p j ≡ true → price B j ≤ℤ price B i) → HighestPrice B accepted p k (present (price B i))
+-- Among the first k bids: none passes the test, or bid i does and none that does has a lower price.
+pub data LeastPrice (B : Book) (test : ℕ → Bool) (k : ℕ) : PoolPrice → Type 0 where
+  none : ((i : ℕ) → i < k → test i ≡ false) → LeastPrice B test k missing
+  some : (i : ℕ) → i < k → test i ≡ true → ((j : ℕ) → j < k → test j ≡ true → price B i ≤ℤ price B j) → LeastPrice B test k (present (price B i))
 
--- only the book's own amounts count
-sells_same : (B : Book) (a c : ℕ → ℕ) (p i : ℕ) → a i ≡ c i → sells B a p i ≡ sells B c p i
-sells_same B a c p i e = ap (λ (z : ℕ). sale B i && (in_pool B p i && ltb 0 z)) e
+-- only the tests count
+pub least_price_ext : (B : Book) (s t : ℕ → Bool) (k : ℕ) → ((i : ℕ) → i < k → s i ≡ t i) → least_price B s k ≡ least_price B t k
+unfolding least_price
+least_price_ext B s t zero e = refl
+least_price_ext B s t (suc k) e =
+    ap₂ (λ (x : Bool) (y : PoolPrice). cond x (lower y (price B k)) y) (e k (omega arith)) (least_price_ext B s t k (λ i l. e i (omega arith)))
 
-highest_same : (B : Book) (a c : ℕ → ℕ) (p k : ℕ) → ((i : ℕ) → i < k → a i ≡ c i) → highest B a p k ≡ highest B c p k
-unfolding highest
-highest_same B a c p zero e = refl
-highest_same B a c p (suc k) e =
-    ap₂ (λ (t : Bool) (x : PoolPrice). cond t (higher x (price B k)) x) (sells_same B a c p k (e k (omega arith))) (highest_same B a c p k (λ i l. e i (omega arith)))
+-- ---- as a greatest
 
-pub pool_price_same : (B : Book) (a c : ℕ → ℕ) (p : ℕ) → ((i : ℕ) → i < B.n → a i ≡ c i) → pool_price B a p ≡ pool_price B c p
-unfolding pool_price
-pool_price_same B a c p e = highest_same B a c p B.n e
+-- h is what a price leaves to the limit and 1, 0 for a missing price
+abbrev IsMargin : PoolPrice → ℕ → Type 0
+IsMargin missing h = h ≡ 0
+IsMargin (present z) h = RaisedBy h z (suc price_limit) × (0 < h) × (h ≤ 2 * price_limit + 1)
 
--- ---- as a greatest: one more than the raised price, 0 for a missing price
-
-abbrev OneMore : PoolPrice → ℕ → Type 0
-OneMore missing h = h ≡ 0
-OneMore (present z) h = RaisedBy (suc price_limit) z h × (0 < h) × (h ≤ 2 * price_limit + 1)
-
-higher_next : (z y : ℤ) (h r : ℕ) → RaisedBy (suc price_limit) z h × (0 < h) × (h ≤ 2 * price_limit + 1) → RaisedBy price_limit y r → r ≤ 2 * price_limit
-    → OneMore (present (cond (lt_z z y) y z)) (max h (suc r))
-higher_next z y h r q e s =
-    rw (raised_less (suc price_limit) z y h (suc r) q.0 (omega arith)) (go (lt? h (suc r)))
+lower_margin : (y z : ℤ) (h k : ℕ) → IsMargin (present y) h → IsMargin (present z) k → IsMargin (present (cond (lt_z z y) z y)) (max h k)
+lower_margin y z h k q r = rw (raised_by_less (suc price_limit) z y k h r.0 q.0) (go (lt? h k))
   where
-    go : {t : Bool} → Lt? h (suc r) t → OneMore (present (cond t y z)) (max h (suc r))
-    go (less l) = (omega (arith, q.0), omega arith, omega arith)
-    go (more l) = (omega (arith, q.0), omega arith, omega (arith, q.2))
+    go : {t : Bool} → Lt? h k t → IsMargin (present (cond t z y)) (max h k)
+    go (less l) = (omega (arith, r.0), omega arith, omega (arith, r.2))
+    go (more l) = (omega (arith, q.0), omega (arith, q.1), omega (arith, q.2))
 
--- the greatest raised price and 1 of the sales accepted in pool p, among the first k bids
-unfoldable pub greatest_of : Book → (ℕ → ℕ) → (p k : ℕ) → ℕ
-greatest_of B accepted p k = max_to k (λ i. on (sells B accepted p i) (suc (raised_price B i)))
-
--- among all bids
-abbrev pub greatest_sale : Book → (ℕ → ℕ) → ℕ → ℕ
-greatest_sale B accepted p = greatest_of B accepted p B.n
-
-one_more_lem : (B : Book) → Sound B → (accepted : ℕ → ℕ) (p k : ℕ) → k ≤ B.n → OneMore (highest B accepted p k) (greatest_of B accepted p k)
-unfolding highest greatest_of max_to
-one_more_lem B ok accepted p zero l = refl
-one_more_lem B ok accepted p (suc k) l = go (sells B accepted p k) (highest B accepted p k) (one_more_lem B ok accepted p k (omega arith))
+-- the two cells of a price
+margin_cells : (x : PoolPrice) (h : ℕ) → IsMargin x h → (price_residue x ≡ on (ltb 0 h) (minus (suc price_limit) h)) × (presence x ≡ on (ltb 0 h) 1)
+margin_cells missing h e = rw e (refl, refl)
+margin_cells (present z) h e = rw (lt-ltb 0 h e.1) (cell z e.0, refl)
   where
-    go : (t : Bool) (x : PoolPrice) → OneMore x (greatest_of B accepted p k) → OneMore (cond t (higher x (price B k)) x) (max (greatest_of B accepted p k) (on t (suc (raised_price B k))))
-    go false missing h = omega arith
-    go false (present z) h = (omega (arith, h.0), omega (arith, h.1), omega (arith, h.2))
-    go true missing h = (omega (arith, price_raised B ok k l), omega arith, omega (arith, ok.price_small k l))
-    go true (present z) h = higher_next z (price B k) (greatest_of B accepted p k) (raised_price B k) h (price_raised B ok k l) (ok.price_small k l)
+    cell : (z : ℤ) → RaisedBy h z (suc price_limit) → residue z ≡ minus (suc price_limit) h
+    cell (pos v) r = omega (arith, e.1, e.2)
+    cell (negsuc v) r = omega (arith, e.1, e.2)
 
--- the two cells of a price, from one more than the raised price
-present_residue : (z : ℤ) (h : ℕ) → RaisedBy (suc price_limit) z h → 0 < h → h ≤ 2 * price_limit + 1 → residue z ≡ minus h (suc price_limit)
-present_residue (pos v) h e l r = omega arith
-present_residue (negsuc v) h e l r = omega arith
+module _ (B : Book) (ok : Sound B) (test : ℕ → Bool) where
+  bid_margin : (i : ℕ) → i < B.n → IsMargin (present (price B i)) (price_margin B i)
+  bid_margin i l = (omega (arith, price_raised B ok i l, ok.price_small i l), omega (arith, ok.price_small i l), omega arith)
 
-price_cell_lem : (x : PoolPrice) (h : ℕ) → OneMore x h → price_residue x ≡ on (ltb 0 h) (minus h (suc price_limit))
-price_cell_lem missing h e = rw e refl
-price_cell_lem (present z) h e = rw (lt-ltb 0 h e.1) (present_residue z h e.0 e.1 e.2)
+  -- the greatest margin of the first k bids that pass the test
+  abbrev greatest : ℕ → ℕ
+  greatest k = max_to k (λ i. on (test i) (price_margin B i))
 
-presence_cell_lem : (x : PoolPrice) (h : ℕ) → OneMore x h → presence x ≡ on (ltb 0 h) 1
-presence_cell_lem missing h e = rw e refl
-presence_cell_lem (present z) h e = rw (lt-ltb 0 h e.1) refl
-
-module _ (B : Book) (ok : Sound B) (accepted : ℕ → ℕ) (p : ℕ) where
-  pub price_by_greatest : price_residue (pool_price B accepted p) ≡ on (ltb 0 (greatest_sale B accepted p)) (minus (greatest_sale B accepted p) (suc price_limit))
-  unfolding pool_price
-  price_by_greatest = price_cell_lem (highest B accepted p B.n) (greatest_sale B accepted p) (one_more_lem B ok accepted p B.n (omega arith))
-
-  pub presence_by_greatest : presence (pool_price B accepted p) ≡ on (ltb 0 (greatest_sale B accepted p)) 1
-  unfolding pool_price
-  presence_by_greatest = presence_cell_lem (highest B accepted p B.n) (greatest_sale B accepted p) (one_more_lem B ok accepted p B.n (omega arith))
-
-  pub greatest_sale_small : greatest_sale B accepted p ≤ 2 * price_limit + 1
-  greatest_sale_small = small (highest B accepted p B.n) (one_more_lem B ok accepted p B.n (omega arith))
+  greatest_margin : (k : ℕ) → k ≤ B.n → IsMargin (least_price B test k) (greatest k)
+  unfolding least_price max_to
+  greatest_margin zero l = refl
+  greatest_margin (suc k) l = go (test k) (least_price B test k) (greatest_margin k (omega arith)) (bid_margin k l)
     where
-      small : (x : PoolPrice) {h : ℕ} → OneMore x h → h ≤ 2 * price_limit + 1
-      small missing e = omega arith
-      small (present z) e = e.2
+      go : (t : Bool) (x : PoolPrice) → IsMargin x (greatest k) → IsMargin (present (price B k)) (price_margin B k)
+          → IsMargin (cond t (lower x (price B k)) x) (max (greatest k) (on t (price_margin B k)))
+      go false missing h q = omega arith
+      go false (present z) h q = (omega (arith, h.0), omega (arith, h.1), omega (arith, h.2))
+      go true missing h q = (omega (arith, q.0), omega (arith, q.1), omega (arith, q.2))
+      go true (present z) h q = lower_margin z (price B k) (greatest k) (price_margin B k) h q
+
+  pub least_price_cells : (price_residue (least_price B test B.n) ≡ on (ltb 0 (greatest B.n)) (minus (suc price_limit) (greatest B.n)))
+      × (presence (least_price B test B.n) ≡ on (ltb 0 (greatest B.n)) 1)
+  least_price_cells = margin_cells (least_price B test B.n) (greatest B.n) (greatest_margin B.n (omega arith))

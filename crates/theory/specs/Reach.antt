@@ -154,7 +154,3 @@ module _ (N : Network) (ok : SoundNetwork N) (x f : ℕ → ℕ) (c : FeasibleUs
   pub slack_reach : Reach N f q p
   slack_reach =
       grow (suc (lacking (only q))) (only q) (omega arith) (λ r h. subst (Reach N f q) (sym (eqb-true r q h)) here) (eq-eqb q q refl)
-
--- which pools reach which does not depend on the flows
-pub reach_same : (N : Network) → SoundNetwork N → (x f f' : ℕ → ℕ) → FeasibleUse N x f → FeasibleUse N x f' → (q p : ℕ) → Reach N f q p → Reach N f' q p
-reach_same N ok x f f' c c' q p r = slack_reach N ok x f' c' q p (reach_slack N ok x f c q p r)
