@@ -10,7 +10,8 @@ use Rattle.definitions.specs.Calls.{AcceptedBook, seal_refusal, bids_refusal, ca
 use Rattle.definitions.specs.Outcome.{Outcome, result_of, plan_run}
 use Rattle.laws.specs.AcceptedBook.{Sound, accepted_sound}
 use Rattle.theory.specs.FlowOrder.{FirstFlows}
-use Rattle.theory.proofs.ClosedBest.{closed_clearing_lem, closed_price_lem}
+use Rattle.theory.proofs.ClosedBest.{closed_clearing_lem}
+use Rattle.theory.proofs.PoolPrice.{closed_price_lem}
 use Rattle.plan.specs.Plan.{plan}
 use Rattle.plan.proofs.AnExample.{three_pools, three_pools_cleared, example_run}
 use Rattle.plan.proofs.Cleared.{HoldsClearing, plan_clears}
@@ -35,8 +36,8 @@ module _ (B : Book) (accepted : AcceptedBook B) where
     inputs = cleared.inputs_kept;
     best = clearing.0;
     permitted = clearing.1;
-    prices = λ p l. cleared.price_cells_lem p l ∙ sym (closed_price_lem B accepted (result_of B left) clearing.0 p).0;
-    presences = λ p l. cleared.presence_cells p l ∙ sym (closed_price_lem B accepted (result_of B left) clearing.0 p).1;
+    prices = λ p l. cleared.price_cells_lem p l ∙ sym (closed_price_lem B accepted (result_of B left) clearing.0 p l).0;
+    presences = λ p l. cleared.presence_cells p l ∙ sym (closed_price_lem B accepted (result_of B left) clearing.0 p l).1;
     scratch = cleared.scratch_zero;
   }
 

@@ -1,19 +1,20 @@
 -- The worked examples hold.
 use Rattle.std.specs.Prelude.{ℕ, zero, suc, ◌*◌, ◌≤◌, ◌<◌, ◌/◌, ◌%◌, ◌≡◌, refl, List, [], ◌∷◌, ℤ}
 use Rattle.std.proofs.Common.{sym, ap₂, ◌∙◌, arith}
-use Rattle.definitions.specs.Arithmetic.{sum_to, sum_z}
+use Rattle.definitions.specs.Arithmetic.{sum_to, sum_z, all_to}
 use Rattle.definitions.specs.Book.{Book}
 use Rattle.definitions.specs.Examples.{book_one, book_two, book_three, book_four, book_five, book_six, book_seven}
-use Rattle.definitions.specs.Clearing.{Clearing, Permitted, welfare, PoolPrice, pool_price, highest, sold, bought, inflow, outflow, before}
+use Rattle.definitions.specs.Clearing.{Clearing, Permitted, welfare, sold, bought, inflow, outflow, before}
+use Rattle.definitions.specs.PoolPrice.{PoolPrice, pool_price, least_price}
 use Rattle.definitions.specs.Bytes.{order_bytes, number_bytes, groups}
 use Rattle.definitions.specs.Calls.{AcceptedBook, seal_refusal, bids_refusal, capacities_refusal, row_refusal, first_from}
 use Rattle.laws.specs.Extremes.{min_to}
 use Rattle.laws.specs.AcceptedBook.{bids_of, book_of}
 use Rattle.theory.specs.Subsets.{member}
-use Rattle.theory.specs.ClosedForms.{subset_sum, demand, cut, size_before, size_with, rank, used_amount, accepted_amount}
+use Rattle.theory.specs.ClosedForms.{subset_sum, demand, cut, size_before, size_with, rank, used_amount, accepted_amount, placement, slack, reached, supplied}
 use Rattle.laws.specs.SameAmounts.{welfare_same}
-use Rattle.theory.specs.PoolPrice.{pool_price_same}
 use Rattle.theory.proofs.ClosedBest.{closed_accepted}
+use Rattle.theory.proofs.PoolPrice.{closed_pool_price}
 use Rattle.theory.specs.BestClearing.{best_exists}
 use Rattle.examples.specs.Examples.{listed, Cleared, Edges, ProvedExamples}
 
@@ -26,7 +27,7 @@ listed_same (suc n) f h e = ap₂ ◌∷◌ (e 0 (omega arith)) (listed_same n (
 pub cleared : (B : Book) (amounts flows : List ℕ) (prices : List PoolPrice) (total : ℤ) → AcceptedBook B
     → listed B.n (λ i. accepted_amount B i) ≡ amounts
     → ((c : Clearing) → Permitted B c → ((i : ℕ) → i < B.n → c.accepted i ≡ accepted_amount B i) → listed (B.m * B.m) (λ k. c.flow (k / B.m) (k % B.m)) ≡ flows)
-    → listed B.m (pool_price B (λ i. accepted_amount B i)) ≡ prices
+    → listed B.m (λ k. least_price B (supplied B k) B.n) ≡ prices
     → welfare B (λ i. accepted_amount B i) ≡ total
     → Cleared B amounts flows prices total
 cleared B amounts flows prices total h a f p w = record {
@@ -34,9 +35,7 @@ cleared B amounts flows prices total h a f p w = record {
   exists = best_exists B h;
   accepts = λ c b. listed_same B.n c.accepted (λ i. accepted_amount B i) (closed_accepted B h c b) ∙ a;
   ships = λ c b q. f c q (closed_accepted B h c b);
-  priced =
-      λ c b. listed_same B.m (pool_price B c.accepted) (pool_price B (λ i. accepted_amount B i)) (λ k l. pool_price_same B c.accepted (λ i. accepted_amount B i) k (closed_accepted B h c b))
-      ∙ p;
+  priced = λ c b. listed_same B.m (pool_price B c) (λ k. least_price B (supplied B k) B.n) (λ k l. closed_pool_price B h c b k l) ∙ p;
   worth = λ c b. welfare_same B c.accepted (λ i. accepted_amount B i) (closed_accepted B h c b) ∙ w;
 }
 
@@ -94,7 +93,7 @@ edges_hold = record {
 }
 
 pub proved_examples : ProvedExamples
-unfolding book_one book_two book_three book_four book_five book_six book_seven listed seal_refusal bids_refusal capacities_refusal row_refusal first_from member subset_sum demand cut size_before size_with rank used_amount accepted_amount before sum_to min_to pool_price highest welfare sum_z order_bytes number_bytes groups
+unfolding book_one book_two book_three book_four book_five book_six book_seven listed seal_refusal bids_refusal capacities_refusal row_refusal first_from member subset_sum demand cut size_before size_with rank used_amount accepted_amount before sum_to all_to min_to placement slack reached supplied least_price welfare sum_z order_bytes number_bytes groups
 proved_examples = record {
   one = cleared book_one _ _ _ _ refl refl (λ c q e. no_line c (q.feasible.flows 0 0 (omega arith) (omega arith))) refl refl;
   two = cleared book_two _ _ _ _ refl refl (λ c q e. two_flows c q (e 0 (omega arith))) refl refl;

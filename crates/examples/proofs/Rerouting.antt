@@ -1,13 +1,14 @@
 -- "Never rerouting gas already placed", of 'Costly mistakes': the first sale leaves the way by pool 2 to the second (`rerouted`).
 use Rattle.std.specs.Prelude.{◌/◌, ◌%◌, ◌≡◌, refl, [], ◌∷◌, pos, neg_ℤ}
 use Rattle.std.proofs.Common.{arith}
-use Rattle.definitions.specs.Arithmetic.{sum_to, sum_z}
+use Rattle.definitions.specs.Arithmetic.{sum_to, sum_z, all_to}
 use Rattle.definitions.specs.Book.{Book, book}
-use Rattle.definitions.specs.Clearing.{Clearing, Permitted, welfare, missing, present, pool_price, highest, sold, bought, inflow, outflow, before}
+use Rattle.definitions.specs.Clearing.{Clearing, Permitted, welfare, sold, bought, inflow, outflow, before}
+use Rattle.definitions.specs.PoolPrice.{present, least_price}
 use Rattle.definitions.specs.Calls.{seal_refusal, bids_refusal, capacities_refusal, row_refusal, first_from}
 use Rattle.laws.specs.Extremes.{min_to}
 use Rattle.theory.specs.Subsets.{member}
-use Rattle.theory.specs.ClosedForms.{subset_sum, demand, cut, size_before, size_with, rank, used_amount, accepted_amount}
+use Rattle.theory.specs.ClosedForms.{subset_sum, demand, cut, size_before, size_with, rank, used_amount, accepted_amount, placement, slack, reached, supplied}
 use Rattle.examples.specs.Examples.{listed, Cleared}
 use Rattle.examples.proofs.Examples.{cleared}
 
@@ -41,6 +42,6 @@ rerouted_flows c q x y =
 
 -- "accepted are 4, 4, 8"
 pub rerouted : Cleared book_rerouted (4 ∷ 4 ∷ 8 ∷ []) (0 ∷ 0 ∷ 4 ∷ 0 ∷ 0 ∷ 0 ∷ 0 ∷ 4 ∷ 0 ∷ 0 ∷ 0 ∷ 4 ∷ 0 ∷ 0 ∷ 0 ∷ 0 ∷ [])
-    (present (pos 10) ∷ present (pos 20) ∷ missing ∷ missing ∷ []) (pos 120)
-unfolding book_rerouted listed seal_refusal bids_refusal capacities_refusal row_refusal first_from member subset_sum demand cut size_before size_with rank used_amount accepted_amount before sum_to min_to pool_price highest welfare sum_z
+    (present (pos 30) ∷ present (pos 30) ∷ present (pos 30) ∷ present (pos 30) ∷ []) (pos 120)
+unfolding book_rerouted listed seal_refusal bids_refusal capacities_refusal row_refusal first_from member subset_sum demand cut size_before size_with rank used_amount accepted_amount before sum_to all_to min_to placement slack reached supplied least_price welfare sum_z
 rerouted = cleared book_rerouted _ _ _ _ refl refl (λ c q e. rerouted_flows c q (e 0 (omega arith)) (e 2 (omega arith))) refl refl

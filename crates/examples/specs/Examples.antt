@@ -1,10 +1,12 @@
--- 'Proved examples' 1 to 10 of document 01 and its 'Edges', in one statement, from the definitions and the theory of the best clearing.
+-- 'Proved examples' 1 to 10 of document 01 and its 'Edges', in one statement, from the definitions and the theory of the best clearing; the prices as
+-- request 4 of document 02 has them.
 use Rattle.std.specs.Prelude.{ℕ, zero, suc, ◌*◌, ◌/◌, ◌%◌, ◌≡◌, List, [], ◌∷◌, ℤ, pos, neg_ℤ}
 use Rattle.definitions.specs.declared.Order.TheVariants.{Constant}
 use Rattle.definitions.specs.Limits.{cell_count}
 use Rattle.definitions.specs.Book.{Book}
 use Rattle.definitions.specs.Examples.{book_one, book_two, book_three, book_four, book_five, book_six, book_seven}
-use Rattle.definitions.specs.Clearing.{Clearing, Best, Permitted, welfare, PoolPrice, missing, present, pool_price}
+use Rattle.definitions.specs.Clearing.{Clearing, Best, Permitted, welfare}
+use Rattle.definitions.specs.PoolPrice.{PoolPrice, missing, present, pool_price}
 use Rattle.definitions.specs.Machine.{times, less_than}
 use Rattle.definitions.specs.Bytes.{order_bytes}
 use Rattle.definitions.specs.Answers.{none, refuse}
@@ -22,7 +24,7 @@ pub record Cleared (B : Book) (amounts flows : List ℕ) (prices : List PoolPric
   pub exists : (c : Clearing) × Best B c × Permitted B c
   pub accepts : (c : Clearing) → Best B c → listed B.n c.accepted ≡ amounts
   pub ships : (c : Clearing) → Best B c → Permitted B c → listed (B.m * B.m) (λ k. c.flow (k / B.m) (k % B.m)) ≡ flows
-  pub priced : (c : Clearing) → Best B c → listed B.m (pool_price B c.accepted) ≡ prices
+  pub priced : (c : Clearing) → Best B c → listed B.m (pool_price B c) ≡ prices
   pub worth : (c : Clearing) → Best B c → welfare B c.accepted ≡ total
 
 -- ---- the statement
@@ -39,16 +41,17 @@ pub record Edges : Type 0 where
 pub record ProvedExamples : Type 0 where
   -- "m 1; (1,20,−10), (1,30,6): accepted 6, 6; welfare 60; price 20."
   pub one : Cleared book_one (6 ∷ 6 ∷ []) (0 ∷ []) (present (pos 20) ∷ []) (pos 60)
-  -- "m 2, line 1 to 2 carries 3, the other 0; (1,20,−10), (2,30,6): accepted 3, 3; flow 3; welfare 30; price 20, missing."
-  pub two : Cleared book_two (3 ∷ 3 ∷ []) (0 ∷ 3 ∷ 0 ∷ 0 ∷ []) (present (pos 20) ∷ missing ∷ []) (pos 30)
+  -- "m 2, line 1 to 2 carries 3, the other 0; (1,20,−10), (2,30,6): accepted 3, 3; flow 3; welfare 30"; request 4: "In example 2 of document 01
+  -- the prices become 20 and 30."
+  pub two : Cleared book_two (3 ∷ 3 ∷ []) (0 ∷ 3 ∷ 0 ∷ 0 ∷ []) (present (pos 20) ∷ present (pos 30) ∷ []) (pos 30)
   -- "m 1; (1,25,−5), (1,25,5): accepted 5, 5; welfare 0."
   pub three : Cleared book_three (5 ∷ 5 ∷ []) (0 ∷ []) (present (pos 25) ∷ []) (pos 0)
   -- "m 1; (1,10,−5), (1,30,4), (1,30,4): accepted 5, 4, 1."
-  pub four : Cleared book_four (5 ∷ 4 ∷ 1 ∷ []) (0 ∷ []) (present (pos 10) ∷ []) (pos 100)
+  pub four : Cleared book_four (5 ∷ 4 ∷ 1 ∷ []) (0 ∷ []) (present (pos 30) ∷ []) (pos 100)
   -- "m 1; (1,−10,−4), (1,−20,4): nothing."
-  pub five : Cleared book_five (0 ∷ 0 ∷ []) (0 ∷ []) (missing ∷ []) (pos 0)
+  pub five : Cleared book_five (0 ∷ 0 ∷ []) (0 ∷ []) (present (neg_ℤ (pos 10)) ∷ []) (pos 0)
   -- "m 3, 1 to 2 carries 5, 2 to 3 carries 2, else 0; (1,10,−9), (2,15,4), (3,40,6): accepted 5, 3, 2; welfare 75."
-  pub six : Cleared book_six (5 ∷ 3 ∷ 2 ∷ []) (0 ∷ 5 ∷ 0 ∷ 0 ∷ 0 ∷ 2 ∷ 0 ∷ 0 ∷ 0 ∷ []) (present (pos 10) ∷ missing ∷ missing ∷ []) (pos 75)
+  pub six : Cleared book_six (5 ∷ 3 ∷ 2 ∷ []) (0 ∷ 5 ∷ 0 ∷ 0 ∷ 0 ∷ 2 ∷ 0 ∷ 0 ∷ 0 ∷ []) (present (pos 10) ∷ present (pos 15) ∷ present (pos 40) ∷ []) (pos 75)
   -- "n 0, m 2, both lines carry 7: flows 0, prices missing, welfare 0."
   pub seven : Cleared book_seven [] (0 ∷ 0 ∷ 0 ∷ 0 ∷ []) (missing ∷ missing ∷ []) (pos 0)
   -- "46,341 times itself is 4,634 modulo p."

@@ -9,7 +9,7 @@ use Rattle.definitions.specs.Limits.{pool_limit, price_limit, greatest_positive,
 use Rattle.definitions.specs.Arithmetic.{join_to, reading}
 use Rattle.definitions.specs.Book.{Book, price}
 use Rattle.definitions.specs.Sheet.{first_result, result_count, first_scratch, amount_cell, flow_cell, price_cell}
-use Rattle.definitions.specs.Clearing.{PoolPrice, missing, present, higher, highest, pool_price, sells, price_residue, presence}
+use Rattle.definitions.specs.PoolPrice.{PoolPrice, missing, present, lower, least_price, supplies, pool_price, price_residue, presence}
 use Rattle.definitions.specs.Machine.{cell}
 use Rattle.definitions.specs.Calls.{AcceptedBook, opened_results}
 use Rattle.definitions.specs.Outcome.{Outcome, result_of, price_numbers, clearing_results}
@@ -49,22 +49,22 @@ Limited : PoolPrice → Type 0
 Limited missing = Unit {0}
 Limited (present z) = nat_abs z ≤ price_limit
 
-higher_limited : (r : PoolPrice) (z : ℤ) → Limited r → nat_abs z ≤ price_limit → Limited (higher r z)
+lower_limited : (r : PoolPrice) (z : ℤ) → Limited r → nat_abs z ≤ price_limit → Limited (lower r z)
 unfolding Limited
-higher_limited missing z h l = l
-higher_limited (present y) z h l = go (lt_z y z)
+lower_limited missing z h l = l
+lower_limited (present y) z h l = go (lt_z z y)
   where
     go : (t : Bool) → nat_abs (cond t z y) ≤ price_limit
     go true = l
     go false = h
 
-highest_limited : (B : Book) → Sound B → (accepted : ℕ → ℕ) (p k : ℕ) → k ≤ B.n → Limited (highest B accepted p k)
-unfolding highest Limited
-highest_limited B ok accepted p zero l = tt
-highest_limited B ok accepted p (suc k) l = go (sells B accepted p k) (highest_limited B ok accepted p k (omega arith))
+least_limited : (B : Book) → Sound B → (test : ℕ → Bool) (k : ℕ) → k ≤ B.n → Limited (least_price B test k)
+unfolding least_price Limited
+least_limited B ok test zero l = tt
+least_limited B ok test (suc k) l = go (test k) (least_limited B ok test k (omega arith))
   where
-    go : (t : Bool) → Limited (highest B accepted p k) → Limited (cond t (higher (highest B accepted p k) (price B k)) (highest B accepted p k))
-    go true h = higher_limited (highest B accepted p k) (price B k) h (ok.price_size k (omega arith))
+    go : (t : Bool) → Limited (least_price B test k) → Limited (cond t (lower (least_price B test k) (price B k)) (least_price B test k))
+    go true h = lower_limited (least_price B test k) (price B k) h (ok.price_size k (omega arith))
     go false h = h
 
 -- its two cells, read
@@ -118,14 +118,14 @@ module _ (B : Book) (accepted : AcceptedBook B) (s : List ℕ) (left : Outcome B
   abbrev prices : ℕ
   prices = flows + B.m * B.m
 
-  pool_read : (p : ℕ) → p < B.m → readings s (prices + p * pool_results) pool_results ≡ price_numbers (pool_price B (result_of B s).accepted p)
+  pool_read : (p : ℕ) → p < B.m → readings s (prices + p * pool_results) pool_results ≡ price_numbers (pool_price B (result_of B s) p)
   unfolding pool_price
   pool_read p l =
       let e : prices + p * pool_results ≡ price_cell B.n B.m p = omega arith in
       rw e
       (two_read s (price_cell B.n B.m p) (on_sheet _ (omega arith))
       ∙ ap₂ (λ (x y : ℕ). reading x ∷ reading y ∷ []) (left.prices p l) (left.presences p l)
-      ∙ price_read _ (highest_limited B ok (result_of B s).accepted p B.n (omega arith)))
+      ∙ price_read _ (least_limited B ok (supplies B (result_of B s) p) B.n (omega arith)))
 
   pub opened_outcome : opened_results B.n B.m s ≡ clearing_results B (result_of B s)
   unfolding opened_results clearing_results

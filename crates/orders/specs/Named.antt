@@ -11,8 +11,8 @@ use Rattle.orders.specs.declared.names.NamedOrder.TheVariants as orders
 use Rattle.plan.specs.Orders.{OrderOn, order_of, renamed, constant, operate, sum, difference, product, less, Operation, adding, subtracting, multiplying, comparing, equating}
 use Rattle.plan.specs.Subsets.{leaves, lowest, others}
 use Rattle.plan.specs.Running.{subset_order, subset_block}
-use Rattle.plan.specs.Blocks.{cut_turn, taken_cell, take_turn}
-use Rattle.plan.specs.Names.{Name, at, ZeroCell, Temporary, Capacity, Cut, Slack, Subset}
+use Rattle.plan.specs.Blocks.{cut_turn, reach_cell, reach_turn, taken_cell, take_turn}
+use Rattle.plan.specs.Names.{Name, at, ZeroCell, Temporary, Capacity, Cut, Slack, Subset, ReachTest}
 use Rattle.plan.specs.Plan.{cell_of}
 
 -- ---- as the code makes them
@@ -67,6 +67,10 @@ module _ (s a b : ℕ) where
   pub cut_chosen : (x : Bool) → x ≡ leaves s a b → sum (Cut s) (Cut s) (cond x (Capacity a b) ZeroCell) ≡ made (cut_turn s a b) 0
   unfolding made
   cut_chosen x e = rw e
+
+  pub reach_chosen : (l : ℕ) (x : Bool) → x ≡ leaves s a b → product (ReachTest l) (ReachTest l) (reach_cell x s) ≡ made (reach_turn l a b s) 0
+  unfolding made
+  reach_chosen l x e = rw e
 
   pub take_chosen : (l : ℕ) (x y : Bool) → x ≡ leaves s a b → y ≡ leaves s b a
       → difference (Slack s) (Slack s) (taken_cell x y l) ≡ made (take_turn l a b s) 0

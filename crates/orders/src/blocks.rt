@@ -5,10 +5,10 @@
 ghost use Rattle.std.specs.Prelude.{◌≡◌, ◌<◌, ◌^◌, [], ◌∷◌};
 ghost use Rattle.plan.specs.Orders.{sum, product};
 ghost use Rattle.plan.specs.Running.{subset_block};
-ghost use Rattle.plan.specs.Blocks.{size_block, cut_turn, test_order, cost_turn, amount_block, rest_turn, take_turn, offer_block, highest_offer_turn, price_block};
+ghost use Rattle.plan.specs.Blocks.{size_block, cut_turn, test_order, cost_turn, amount_block, reach_turn, rest_turn, take_turn, margin_block, greatest_turn, price_block};
 ghost use Rattle.orders.specs.Named.{name_of, named_of, made, moved};
 
-use crate::names::{Name, NamedOrder, QUANTITY, cell, difference, first, less, own, product, sum};
+use crate::names::{Name, NamedOrder, PRICE, QUANTITY, cell, difference, first, less, own, product, sum};
 use crate::sets::{is_leaving, other_pools, subset_count};
 use definitions::Counts;
 use plan::Family::*;
@@ -62,16 +62,15 @@ pub fn amount_order(i: usize, turn: usize) -> NamedOrder
     }
 }
 
-// The offer of bid i.
-pub fn offer_order(i: usize, turn: usize) -> NamedOrder
-    requires { turn < 4 }
-    ensures { named_of result ≡ made (offer_block i) turn }
+// The margin of bid i.
+pub fn margin_order(i: usize, turn: usize) -> NamedOrder
+    requires { turn < 3 }
+    ensures { named_of result ≡ made (margin_block i) turn }
 {
     match turn {
-        0 => less(own(0), first(ZeroCells, 0), first(Amounts, i)),
-        1 => difference(own(1), first(Units, 0), first(Sides, i)),
-        2 => product(own(0), own(0), own(1)),
-        _ => product(first(Offers, i), own(0), first(PositivePrices, i)),
+        0 => less(own(0), first(Uses, i), first(Sizes, i)),
+        1 => difference(own(1), first(Shifts, 0), cell(Bids, i, PRICE)),
+        _ => product(first(Margins, i), own(0), own(1)),
     }
 }
 
@@ -84,9 +83,9 @@ pub fn price_order(p: usize, turn: usize) -> NamedOrder
         0 => less(
             cell(Prices, p, 1),
             first(ZeroCells, 0),
-            first(HighestOffers, p),
+            first(BestMargins, p),
         ),
-        1 => difference(own(0), first(HighestOffers, p), first(Shifts, 0)),
+        1 => difference(own(0), first(Shifts, 0), first(BestMargins, p)),
         _ => product(first(Prices, p), own(0), cell(Prices, p, 1)),
     }
 }
@@ -114,6 +113,18 @@ pub fn test_order(i: usize, j: usize) -> NamedOrder
         return less(own(0), first(Doubles, j), first(Keys, i));
     }
     less(own(0), first(ZeroCells, 0), first(ZeroCells, 0))
+}
+
+// Whether pool a of line l reaches its pool b, by the set s: if s parts them it must have slack.
+#[tactic(auto, using(crate::specs::Named::reach_chosen))]
+pub fn reach_turn(l: usize, a: usize, b: usize, s: usize) -> NamedOrder
+    ensures { named_of result ≡ made (reach_turn l a b s) 0 }
+{
+    let test = first(ReachTests, l);
+    if is_leaving(s, a, b) {
+        return product(test, test, first(SlackTests, s));
+    }
+    product(test, test, first(Units, 0))
 }
 
 // Line a to b's part of the cut of s.
@@ -172,15 +183,14 @@ pub fn cost_turn(counts: Counts, d: Name, s: usize, turn: usize) -> NamedOrder
     moved(d, own(2), own(2), d, turn - 1)
 }
 
-// One step of a greatest, in pool p's highest offer: the offer of bid i if it is in p.
+// One step of a greatest, in cell d: the product of a test and a number.
 #[tactic(auto, using(crate::specs::Named::at_turn, crate::specs::Named::made_next))]
-pub fn highest_offer_turn(p: usize, i: usize, turn: usize) -> NamedOrder
+pub fn greatest_turn(d: Name, test: Name, number: Name, turn: usize) -> NamedOrder
     requires { turn < 5 }
-    ensures { named_of result ≡ made (highest_offer_turn p i) turn }
+    ensures { named_of result ≡ made (greatest_turn (name_of d) (name_of test) (name_of number)) turn }
 {
     if turn == 0 {
-        return product(own(2), cell(Memberships, i, p), first(Offers, i));
+        return product(own(2), test, number);
     }
-    let d = first(HighestOffers, p);
     moved(d, own(2), d, own(2), turn - 1)
 }

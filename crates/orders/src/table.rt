@@ -3,13 +3,13 @@
 #![tactic(auto, using(crate::specs::Shaped::one_of, crate::specs::Shaped::of_part, crate::specs::Shaped::of_second, crate::specs::Shaped::one_of_second, crate::specs::Shaped::sum_at, crate::specs::Shaped::head_of, crate::specs::Shaped::cut_at, crate::specs::Shaped::gain_at))]
 
 ghost use Rattle.std.specs.Prelude.{◌≡◌, ◌<◌};
-ghost use Rattle.plan.specs.Table.{scratch_count, phase_at, phase_count, demand_phase, cut_phase, size_before_phase, rank_phase, placement_phase, slack_phase, line_phase, highest_offer_phase};
+ghost use Rattle.plan.specs.Table.{scratch_count, phase_at, phase_count, demand_phase, cut_phase, size_before_phase, rank_phase, placement_phase, slack_phase, reach_phase, line_phase, pool_margin_phase, best_margin_phase};
 ghost use Rattle.plan.specs.Names.{at};
 ghost use Rattle.orders.specs.Named.{named_of};
 ghost use Rattle.orders.specs.Shaped.{IsShape, InPhase, order_in};
 
 use crate::blocks::{
-    added, amount_order, cost_turn, cut_turn, highest_offer_turn, offer_order, price_order,
+    added, amount_order, cost_turn, cut_turn, greatest_turn, margin_order, price_order, reach_turn,
     rest_turn, size_order, subset_order, take_turn, test_order,
 };
 use crate::names::{
@@ -53,15 +53,18 @@ pub fn shape_of(counts: Counts, scratch: usize, k: usize) -> Shape
         18 => Shape::new(n, [many(1, 4), NONE, NONE, NONE]), // amounts
         19 => Shape::new(m, [ONE, many(n, 2), NONE, NONE]), // placements
         20 => Shape::new(1, [many(sets, 1), many(sets, 1), NONE, NONE]), // slacks
-        21 => Shape::new(lines, [ONE, many(sets, 4), ONE, many(sets, 1)]), // flows
-        22 => Shape::new(n, [many(1, 4), NONE, NONE, NONE]), // offers
-        23 => Shape::new(m, [ONE, many(n, 5), NONE, NONE]), // highest offers
-        24 => Shape::new(m, [many(1, 3), NONE, NONE, NONE]), // prices
+        21 => Shape::new(1, [many(sets, 1), NONE, NONE, NONE]), // slack tests
+        22 => Shape::new(lines, [ONE, many(sets, 1), NONE, NONE]), // reach tests
+        23 => Shape::new(lines, [ONE, many(sets, 4), ONE, many(sets, 1)]), // flows
+        24 => Shape::new(n, [many(1, 3), NONE, NONE, NONE]), // margins
+        25 => Shape::new(m, [ONE, many(n, 5), NONE, NONE]), // pool margins
+        26 => Shape::new(m, [ONE, many(m, 5), NONE, NONE]), // best margins
+        27 => Shape::new(m, [many(1, 3), NONE, NONE, NONE]), // prices
         _ => Shape::new(1, [many(scratch, 1), NONE, NONE, NONE]), // zeros
     }
 }
 
-// Demands, placements and highest offers each clear a cell before they gather in it, and cuts and slacks each sum over the sets first: one line each,
+// Demands, placements and greatest margins each clear a cell before they gather in it, and cuts and slacks each sum over the sets first: one line each,
 // which a function for them would not spare.
 
 // An order of the demand of a pool.
@@ -168,6 +171,18 @@ fn slacks(counts: Counts, s: Spot) -> NamedOrder
     difference(first(Slacks, set), first(Cuts, set), first(Subsets, set))
 }
 
+// An order of whether the pool where a line begins reaches the pool where it ends.
+fn reaching(counts: Counts, s: Spot) -> NamedOrder
+    requires { InPhase (reach_phase counts.n counts.m) s }
+    ensures { named_of result ≡ order_in (reach_phase counts.n counts.m) s }
+{
+    let line = s.row;
+    if s.part == 0 {
+        return NamedOrder::Constant(first(ReachTests, line), 1);
+    }
+    reach_turn(line, line / counts.m, line % counts.m, s.column)
+}
+
 // An order of a line.
 fn lines(counts: Counts, s: Spot) -> NamedOrder
     requires { InPhase (line_phase counts.n counts.m) s }
@@ -183,15 +198,40 @@ fn lines(counts: Counts, s: Spot) -> NamedOrder
     }
 }
 
-// An order of the highest offer in a pool.
-fn highest_offers(counts: Counts, s: Spot) -> NamedOrder
-    requires { InPhase (highest_offer_phase counts.n counts.m) s }
-    ensures { named_of result ≡ order_in (highest_offer_phase counts.n counts.m) s }
+// An order of the greatest margin in a pool.
+fn pool_margins(counts: Counts, s: Spot) -> NamedOrder
+    requires { InPhase (pool_margin_phase counts.n counts.m) s }
+    ensures { named_of result ≡ order_in (pool_margin_phase counts.n counts.m) s }
 {
+    let margin = first(PoolMargins, s.row);
     if s.part == 0 {
-        return NamedOrder::Constant(first(HighestOffers, s.row), 0);
+        return NamedOrder::Constant(margin, 0);
     }
-    highest_offer_turn(s.row, s.column, s.turn)
+    let bid = s.column;
+    greatest_turn(
+        margin,
+        cell(Memberships, bid, s.row),
+        first(Margins, bid),
+        s.turn,
+    )
+}
+
+// An order of the greatest margin in the pools that reach a pool.
+fn best_margins(counts: Counts, s: Spot) -> NamedOrder
+    requires { InPhase (best_margin_phase counts.n counts.m) s }
+    ensures { named_of result ≡ order_in (best_margin_phase counts.n counts.m) s }
+{
+    let margin = first(BestMargins, s.row);
+    if s.part == 0 {
+        return NamedOrder::Constant(margin, 0);
+    }
+    let pool = s.column;
+    greatest_turn(
+        margin,
+        first(ReachTests, pool * counts.m + s.row),
+        first(PoolMargins, pool),
+        s.turn,
+    )
 }
 
 // The order at a place of phase k.
@@ -248,10 +288,17 @@ pub fn order_of(counts: Counts, k: usize, s: Spot) -> NamedOrder
         18 => amount_order(i, s.turn),
         19 => placements(counts, s),
         20 => slacks(counts, s),
-        21 => lines(counts, s),
-        22 => offer_order(i, s.turn),
-        23 => highest_offers(counts, s),
-        24 => price_order(i, s.turn),
+        21 => less(
+            first(SlackTests, s.column),
+            first(ZeroCells, 0),
+            first(Slacks, s.column),
+        ),
+        22 => reaching(counts, s),
+        23 => lines(counts, s),
+        24 => margin_order(i, s.turn),
+        25 => pool_margins(counts, s),
+        26 => best_margins(counts, s),
+        27 => price_order(i, s.turn),
         _ => NamedOrder::Constant(own(s.column), 0),
     }
 }

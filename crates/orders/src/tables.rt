@@ -17,7 +17,7 @@ use plan::Place;
 
 // How many phases the plan has. A phase's number is bounded in each contract: a type for it would be made anew at each turn of a loop and after each
 // `settled`.
-pub const PHASES: usize = 26;
+pub const PHASES: usize = 29;
 
 // One beginning more than there are families: where the last ends.
 const STARTS: usize = Family::COUNT + 1;
@@ -59,8 +59,11 @@ fn place_of(counts: Counts, family: Family) -> Place
         Uses => Place(25, n, 1),
         Placements => Place(26, m, 1),
         Slacks => Place(27, sets, 1),
-        Offers => Place(28, n, 1),
-        HighestOffers => Place(29, m, 1),
+        SlackTests => Place(28, sets, 1),
+        ReachTests => Place(29, lines, 1),
+        Margins => Place(30, n, 1),
+        PoolMargins => Place(31, m, 1),
+        BestMargins => Place(32, m, 1),
     }
 }
 

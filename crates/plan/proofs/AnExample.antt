@@ -20,7 +20,7 @@ three_pools =
 abbrev pub three_pools_cleared : List ℕ
 three_pools_cleared =
     1 ∷ 2147483637 ∷ 4 ∷ 3 ∷ 2147483637 ∷ 2147483642 ∷ 2 ∷ 2147483637 ∷ 2147483642 ∷ 0 ∷ 0 ∷ 0 ∷ 5 ∷ 0 ∷ 0 ∷ 2 ∷ 5 ∷ 0
-    ∷ 4 ∷ 4 ∷ 0 ∷ 0 ∷ 0 ∷ 0 ∷ 2 ∷ 0 ∷ 0 ∷ 2 ∷ 2 ∷ 0 ∷ 0 ∷ 0 ∷ 0 ∷ 0 ∷ 2147483637 ∷ 1 ∷ replicate (cell_count - first_scratch 3 3) 0
+    ∷ 4 ∷ 4 ∷ 0 ∷ 0 ∷ 0 ∷ 0 ∷ 2 ∷ 0 ∷ 0 ∷ 2 ∷ 2 ∷ 0 ∷ 2147483637 ∷ 1 ∷ 2147483637 ∷ 1 ∷ 2147483637 ∷ 1 ∷ replicate (cell_count - first_scratch 3 3) 0
 
 pub example_run : run_of (plan 3 3) (sealed_sheet three_pools) ≡ three_pools_cleared
 unfolding sum_to sealed_sheet run_of member lowest others scratch_count work table plan

@@ -1,18 +1,18 @@
 -- Every number that the plan computes of a sound book is below half the modulus, so that nothing wraps: what the theory's bounds of the closed forms give for
 -- the sums and differences that the plan makes of them.
-use Rattle.std.specs.Prelude.{Bool, not, ◌&&◌, ℕ, ◌+◌, ◌-◌, ◌*◌, ◌^◌, ◌≤◌, ◌<◌, ltb, eqb}
-use Rattle.std.proofs.Common.{true, false, cond, mul-le-mul_right, arith}
+use Rattle.std.specs.Prelude.{not, ℕ, ◌+◌, ◌*◌, ◌^◌, ◌≤◌, ◌<◌, ltb, eqb}
+use Rattle.std.proofs.Common.{mul-le-mul_right, arith}
 use Rattle.definitions.specs.Limits.{pool_limit, price_limit, quantity_limit, greatest_positive}
 use Rattle.definitions.specs.Arithmetic.{on, sum_to}
-use Rattle.definitions.specs.Book.{Book, purchase, sale, size}
+use Rattle.definitions.specs.Book.{Book, size}
 use Rattle.laws.specs.Sum.{sum_bound}
-use Rattle.laws.specs.Extremes.{min_le_start}
+use Rattle.laws.specs.Extremes.{min_le_start, max_below}
 use Rattle.laws.specs.Tests.{on_le}
 use Rattle.laws.specs.AcceptedBook.{pool_index, Sound}
 use Rattle.theory.specs.ClosedBest.{size_total}
 use Rattle.theory.proofs.ClosedBest.{demand_small, size_before_small, cut_small, used_size}
 use Rattle.plan.specs.Subsets.{member}
-use Rattle.plan.proofs.Values.{pool_size, demand, cut, size_with, rank, used_amount, accepted_amount, positive_price, offer}
+use Rattle.plan.proofs.Values.{pool_size, demand, cut, size_with, rank, used_amount, price_margin, reached, margin, pool_margin, best_margin}
 
 -- a sum of at most so many terms
 pub sum_limit_lem : (k K : ℕ) (f : ℕ → ℕ) (b : ℕ) → k ≤ K → ((i : ℕ) → i < k → f i ≤ b) → sum_to k f ≤ K * b
@@ -42,17 +42,20 @@ module _ (B : Book) (sound : Sound B) where
   unfolding rank
   rank_small x = min_le_start greatest_positive (2 ^ B.m) _
 
-  pub offer_small : (i : ℕ) → i < B.n → offer B i ≤ 2 * price_limit + 1
-  unfolding offer
-  offer_small i l = omega (arith, on_le (ltb 0 (accepted_amount B i) && sale B i) (positive_price B i), sound.price_small i l)
-
   pub used_small : (i : ℕ) → i < B.n → used_amount B i ≤ quantity_limit
   used_small i l = omega (arith, used_size B sound i l, sound.size_small i l)
 
-  pub accepted_small : (i : ℕ) → i < B.n → accepted_amount B i ≤ quantity_limit
-  unfolding accepted_amount
-  accepted_small i l = go (purchase B i)
-    where
-      go : (t : Bool) → cond t (size B i - used_amount B i) (used_amount B i) ≤ quantity_limit
-      go true = omega (arith, sound.size_small i l)
-      go false = used_small i l
+-- ---- margins, of any book
+
+module _ (B : Book) where
+  pub margin_small : (i : ℕ) → margin B i ≤ 2 * price_limit + 1
+  unfolding margin
+  margin_small i = omega (arith, on_le (ltb (used_amount B i) (size B i)) (price_margin B i))
+
+  pub pool_margin_small : (p : ℕ) → pool_margin B p ≤ 2 * price_limit + 1
+  unfolding pool_margin
+  pool_margin_small p = max_below B.n _ (2 * price_limit + 1) (λ i _. omega (arith, on_le (eqb (pool_index B i) p) (margin B i), margin_small i))
+
+  pub best_margin_small : (p : ℕ) → best_margin B p ≤ 2 * price_limit + 1
+  unfolding best_margin
+  best_margin_small p = max_below B.m _ (2 * price_limit + 1) (λ q _. omega (arith, on_le (reached B q p) (pool_margin B q), pool_margin_small q))

@@ -12,6 +12,7 @@ pub mod Bounds
 pub mod Bids
 pub mod Cuts
 pub mod Ranks
+pub mod Reaching
 pub mod Lines
 pub mod Prices
 pub mod Whole

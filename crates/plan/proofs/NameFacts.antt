@@ -2,7 +2,7 @@
 use Rattle.std.specs.Prelude.{◌≡◌, refl, true, eqb}
 use Rattle.std.proofs.Common.{sym, ap, ◌∙◌, eqb-true}
 use Rattle.plan.specs.declared.Family.{Family}
-use Rattle.plan.specs.declared.Family.TheVariants.{Bids, Capacities, Amounts, Flows, Prices, Temporaries, ZeroCells, Units, Shifts, PoolNumbers, Sides, Sizes, PositivePrices, Doubles, Keys, Nexts, Memberships, PoolSizes, Demands, Subsets, Cuts, SizesBefore, RanksBefore, SizesWith, RanksWith, Uses, Placements, Slacks, Offers, HighestOffers}
+use Rattle.plan.specs.declared.Family.TheVariants.{Bids, Capacities, Amounts, Flows, Prices, Temporaries, ZeroCells, Units, Shifts, PoolNumbers, Sides, Sizes, PositivePrices, Doubles, Keys, Nexts, Memberships, PoolSizes, Demands, Subsets, Cuts, SizesBefore, RanksBefore, SizesWith, RanksWith, Uses, Placements, Slacks, SlackTests, ReachTests, Margins, PoolMargins, BestMargins}
 use Rattle.plan.specs.Names.{number, family_at}
 
 pub at_number : (f : Family) → family_at (number f) ≡ f
@@ -34,8 +34,11 @@ at_number RanksWith = refl
 at_number Uses = refl
 at_number Placements = refl
 at_number Slacks = refl
-at_number Offers = refl
-at_number HighestOffers = refl
+at_number SlackTests = refl
+at_number ReachTests = refl
+at_number Margins = refl
+at_number PoolMargins = refl
+at_number BestMargins = refl
 
 -- no two families have the same number
 pub number_same : (f g : Family) → number f ≡ number g → f ≡ g

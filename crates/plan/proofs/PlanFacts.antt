@@ -57,7 +57,7 @@ module _ (n m : ℕ) where
   plan_length = length-map (cell_orders n m) order_of ∙ length-map (flat (table n m)) (renamed (cell_of n m)) ∙ flat_length (table n m)
 
   -- in closed form
-  size_closed : table_size (table n m) ≡ n * n * (1 + 2 * m) + n * (29 + 17 * m + 12 * 2 ^ m) + (8 + 11 * m + 2 * (m * m) + 2 ^ m * (7 + 6 * (m * m)))
+  size_closed : table_size (table n m) ≡ n * n * (1 + 2 * m) + n * (28 + 17 * m + 12 * 2 ^ m) + (8 + 13 * m + 9 * (m * m) + 2 ^ m * (9 + 7 * (m * m)))
   unfolding table_size row_size table work sum_to scratch_count
   size_closed = omega arith
 
@@ -66,7 +66,7 @@ module _ (n m : ℕ) where
   plan_bound p k = rw (plan_length, size_closed) (go (2 ^ m) ((m + 1) ^ 6) (power_small m k) (pow-le-pow_left {n = 2} {m = m + 1} (omega arith) 6))
     where
       go : (sets power : ℕ) → sets ≤ 2 ^ pool_limit → 2 ^ 6 ≤ power
-          → n * n * (1 + 2 * m) + n * (29 + 17 * m + 12 * sets) + (8 + 11 * m + 2 * (m * m) + sets * (7 + 6 * (m * m))) ≤ n * (100 * n + 40 * power) + 10000
+          → n * n * (1 + 2 * m) + n * (28 + 17 * m + 12 * sets) + (8 + 13 * m + 9 * (m * m) + sets * (9 + 7 * (m * m))) ≤ n * (100 * n + 40 * power) + 10000
       go sets power a b =
           omega (
             arith,

@@ -1,78 +1,94 @@
--- The phases that fill the offers, the greatest offer of each pool, and the pools' price and presence cells.
-use Rattle.std.specs.Prelude.{◌≡◌, Bool, true, false, not, ◌&&◌, [], ◌∷◌, ℕ, zero, suc, ◌≤◌, ◌<◌, ltb, eqb}
-use Rattle.std.proofs.Common.{refl, arith, lit<, lit≤}
-use Rattle.definitions.specs.Limits.{modulus, greatest_positive, price_limit, pool_results}
+-- The phases that fill the margins, the greatest margin in each pool and in the pools that reach it, and the pools' price and presence cells.
+use Rattle.std.specs.Prelude.{◌≡◌, Bool, false, [], ◌∷◌, List, ℕ, zero, suc, ◌+◌, ◌*◌, ◌≤◌, ◌<◌, ltb, eqb}
+use Rattle.std.proofs.Common.{refl, sym, true, ◌∙◌, arith, lit<, lit≤}
+use Rattle.std.proofs.Math.Arith.{digits_div, digits_mod, digits_lt}
+use Rattle.definitions.specs.Limits.{greatest_positive, price_limit, pool_results}
 use Rattle.definitions.specs.Arithmetic.{on}
-use Rattle.definitions.specs.Book.{Book, purchase}
-use Rattle.definitions.specs.Machine.{minus, times}
+use Rattle.definitions.specs.Book.{Book, price, size}
+use Rattle.definitions.specs.Machine.{minus}
 use Rattle.laws.specs.Tests.{on_le}
-use Rattle.laws.specs.AcceptedBook.{pool_index, Sound}
-use Rattle.theory.proofs.ClosedBest.{highest_offer_small}
-use Rattle.plan.specs.Orders.{constant, run, State}
-use Rattle.plan.specs.Residues.{times_on, on_times, less_small, max_small}
+use Rattle.laws.specs.Extremes.{max_to}
+use Rattle.laws.specs.AcceptedBook.{pool_index, raised_price, Sound}
+use Rattle.plan.specs.Orders.{run, State}
+use Rattle.plan.specs.Residues.{times_on, on_times, less_small, max_small, margin_residue}
 use Rattle.plan.specs.Loops.{loop, writes_loop, eqb_same}
-use Rattle.plan.proofs.Holds.{Holds, Phase, holds_keep, touches, fill_column, fill_rows}
-use Rattle.plan.specs.Names.{at, ZeroCells, Units, Shifts, Sides, PositivePrices, Memberships, Amounts, Offers, HighestOffers, Prices, Temporaries, HighestOffer}
+use Rattle.plan.proofs.Holds.{Holds, Phase, apart, holds_keep, touches, fill_column, fill_rows}
+use Rattle.plan.specs.Names.{Family, number, Name, at, Bids, ZeroCells, Shifts, Sizes, Memberships, Uses, ReachTests, Margins, PoolMargins, BestMargins, Prices, Temporaries, Membership, ReachTest, Margin, PoolMargin, BestMargin, rows_of, columns_of}
 use Rattle.plan.specs.Running.{Raises, raise}
-use Rattle.plan.proofs.Values.{cell_tables, positive_price, accepted_amount, offer, highest_offer, price_cells}
-use Rattle.plan.specs.Blocks.{offer_block, highest_offer_turn, price_block}
-use Rattle.plan.specs.Table.{highest_offer_block}
-use Rattle.plan.proofs.Bounds.{accepted_small, offer_small}
+use Rattle.plan.proofs.Values.{cell_tables, used_amount, reached, price_margin, margin, pool_margin, best_margin, price_cells}
+use Rattle.plan.specs.Blocks.{margin_block, greatest_start, greatest_turn, price_block}
+use Rattle.plan.specs.Table.{greatest_block}
+use Rattle.plan.proofs.Bounds.{used_small, margin_small, pool_margin_small, best_margin_small}
 
--- two tests and a number, by products
-both_tests : (s t : Bool) (v : ℕ) → v < modulus → times (times (on s 1) (minus 1 (on t 1))) v ≡ on (s && not t) v
-both_tests true true v h = omega arith
-both_tests true false v h = omega arith
-both_tests false true v h = omega arith
-both_tests false false v h = omega arith
+-- the greatest in row p of family u, of numbers v whose test p holds: tests and numbers stand in families that it reads
+module _ (B : Book) (u : Family) (reads : List Family) (clear : apart (Temporaries ∷ u ∷ []) reads ≡ true) (clear-too : apart (u ∷ Temporaries ∷ []) reads ≡ true)
+    (no-temporary : eqb (number Temporaries) (number u) ≡ false) (rows : rows_of B.n B.m u ≡ B.m) (column : columns_of B.n B.m u ≡ 1)
+    (k : ℕ) (a : (p i : ℕ) → Name) (b : ℕ → Name) (test : (p i : ℕ) → Bool) (v : ℕ → ℕ) (small : (i : ℕ) → v i ≤ 2 * price_limit + 1)
+    (tests : (p i : ℕ) (t : State) → p < B.m → i < k → Holds (cell_tables B) reads t → t (a p i) ≡ on (test p i) 1)
+    (numbers : (i : ℕ) (t : State) → i < k → Holds (cell_tables B) reads t → t (b i) ≡ v i)
+    (value : (p : ℕ) → (cell_tables B).value u p 0 ≡ max_to k (λ i. on (test p i) (v i))) where
+  -- where it goes
+  abbrev d : ℕ → Name
+  d p = at u p 0
 
-module _ (B : Book) (sound : Sound B) where
-  pub offer_phase : Phase (cell_tables B) (Amounts ∷ Sides ∷ PositivePrices ∷ Units ∷ ZeroCells ∷ []) Offers (Temporaries ∷ []) (loop B.n offer_block)
-  unfolding offer
-  offer_phase = fill_column (cell_tables B) (Amounts ∷ Sides ∷ PositivePrices ∷ Units ∷ ZeroCells ∷ []) Offers (Temporaries ∷ []) refl refl refl offer_block (λ i. rw (eqb_same i))
-      (λ i t l h. rw (
-        eqb_same i,
-        h ZeroCells refl 0 0 (lit< tt) (lit< tt),
-        h Units refl 0 0 (lit< tt) (lit< tt),
-        h Amounts refl i 0 l (lit< tt),
-        h Sides refl i 0 l (lit< tt),
-        h PositivePrices refl i 0 l (lit< tt),
-        less_small 0 (accepted_amount B i) (lit≤ tt) (omega (arith, accepted_small B sound i l)),
-      )
-      (both_tests (ltb 0 (accepted_amount B i)) (purchase B i) (positive_price B i) (omega (arith, sound.price_small i l))))
+  term_small : (p i : ℕ) → on (test p i) (v i) ≤ greatest_positive
+  term_small p i = omega (arith, on_le (test p i) (v i), small i)
 
-  -- what the highest offers read
-  abbrev HoldsOffers : State → Type 0
-  HoldsOffers = Holds (cell_tables B) (Offers ∷ Memberships ∷ [])
-
-  pool_offer_small : (p i : ℕ) → i < B.n → on (eqb (pool_index B i) p) (offer B i) ≤ greatest_positive
-  pool_offer_small p i l = omega (arith, on_le (eqb (pool_index B i) p) (offer B i), offer_small B sound i l)
-
-  highest_offer_raises : (p : ℕ) → p < B.m → (i : ℕ) → i < B.n → Raises HoldsOffers (HighestOffer p) (highest_offer_turn p i) (on (eqb (pool_index B i) p) (offer B i))
-  highest_offer_raises p b i l t h c = (
-    holds_keep (cell_tables B) (HighestOffers ∷ Temporaries ∷ []) (Offers ∷ Memberships ∷ []) refl (highest_offer_turn p i) refl t h,
-    rw (eqb_same p, h Memberships refl i p l b, h Offers refl i 0 l (lit< tt), times_on (eqb (pool_index B i) p) (offer B i) (omega (arith, offer_small B sound i l)))
-        (max_small (t (HighestOffer p)) (on (eqb (pool_index B i) p) (offer B i)) c (pool_offer_small p i l)),
+  raises : (p : ℕ) → p < B.m → (i : ℕ) → i < k → Raises (Holds (cell_tables B) reads) (d p) (greatest_turn (d p) (a p i) (b i)) (on (test p i) (v i))
+  raises p r i l t h c = (
+    holds_keep (cell_tables B) (Temporaries ∷ u ∷ []) reads clear (greatest_turn (d p) (a p i) (b i)) (rw (no-temporary, eqb_same (number u))) t h,
+    rw (no-temporary, eqb_same (number u), eqb_same p, tests p i t r l h, numbers i t l h, times_on (test p i) (v i) (omega (arith, small i)))
+        (max_small (t (d p)) (on (test p i) (v i)) c (term_small p i)),
   )
 
-  highest_offer_value : (p : ℕ) (t : State) → p < B.m → HoldsOffers t → run (highest_offer_block B.n B.m p) t (HighestOffer p) ≡ highest_offer B p
-  unfolding highest_offer
-  highest_offer_value p t b h =
-      (raise HoldsOffers (HighestOffer p) B.n (highest_offer_turn p) (λ i. on (eqb (pool_index B i) p) (offer B i))
-      (pool_offer_small p) (highest_offer_raises p b)
-      (run (constant (HighestOffer p) 0 ∷ []) t) (holds_keep (cell_tables B) (HighestOffers ∷ []) (Offers ∷ Memberships ∷ []) refl (constant (HighestOffer p) 0 ∷ []) refl t h) (rw (eqb_same p))).1
+  greatest_value : (p : ℕ) (t : State) → p < B.m → Holds (cell_tables B) reads t → run (greatest_block B.n B.m k d a b p) t (d p) ≡ (cell_tables B).value u p 0
+  greatest_value p t r h =
+      (raise (Holds (cell_tables B) reads) (d p) k (λ i. greatest_turn (d p) (a p i) (b i)) (λ i. on (test p i) (v i)) (λ i _. term_small p i) (raises p r)
+      (run (greatest_start (d p)) t)
+      (holds_keep (cell_tables B) (Temporaries ∷ u ∷ []) reads clear (greatest_start (d p)) (rw (no-temporary, eqb_same (number u))) t h)
+      (rw (eqb_same (number u), eqb_same p))).1
+      ∙ sym (value p)
 
-  pub highest_offer_phase_lem : Phase (cell_tables B) (Offers ∷ Memberships ∷ []) HighestOffers (Temporaries ∷ []) (loop B.m (highest_offer_block B.n B.m))
-  highest_offer_phase_lem = fill_column (cell_tables B) (Offers ∷ Memberships ∷ []) HighestOffers (Temporaries ∷ []) refl refl refl (highest_offer_block B.n B.m)
-      (λ p. rw (eqb_same p) (writes_loop (touches HighestOffers p (Temporaries ∷ [])) B.n (highest_offer_turn p) (λ i _. rw (eqb_same p)))) highest_offer_value
+  pub greatest_fills : Phase (cell_tables B) reads u (Temporaries ∷ []) (loop (rows_of B.n B.m u) (greatest_block B.n B.m k d a b))
+  greatest_fills = fill_column (cell_tables B) reads u (Temporaries ∷ []) clear-too (rw no-temporary) column (greatest_block B.n B.m k d a b)
+      (λ p. rw (no-temporary, eqb_same (number u), eqb_same p)
+      (writes_loop (touches u p (Temporaries ∷ [])) k (λ i. greatest_turn (d p) (a p i) (b i)) (λ i _. rw (no-temporary, eqb_same (number u), eqb_same p))))
+      (λ p t r h. greatest_value p t (rw rows at r) h)
 
-  price_value : (p j : ℕ) (t : State) → p < B.m → j < pool_results → Holds (cell_tables B) (HighestOffers ∷ Shifts ∷ ZeroCells ∷ []) t → run (price_block p) t (at Prices p j) ≡ price_cells B p j
+module _ (B : Book) (sound : Sound B) where
+  pub margin_phase : Phase (cell_tables B) (Uses ∷ Sizes ∷ Bids ∷ Shifts ∷ []) Margins (Temporaries ∷ []) (loop B.n margin_block)
+  unfolding margin
+  margin_phase = fill_column (cell_tables B) (Uses ∷ Sizes ∷ Bids ∷ Shifts ∷ []) Margins (Temporaries ∷ []) refl refl refl margin_block (λ i. rw (eqb_same i))
+      (λ i t l h. rw (
+        eqb_same i,
+        h Uses refl i 0 l (lit< tt),
+        h Sizes refl i 0 l (lit< tt),
+        h Shifts refl 0 0 (lit< tt) (lit< tt),
+        h Bids refl i 1 l (lit< tt),
+        margin_residue (price B i) (raised_price B i) (sound.price_is i l) (sound.price_small i l),
+        less_small (used_amount B i) (size B i) (omega (arith, used_small B sound i l)) (omega (arith, sound.size_small i l)),
+      )
+      (times_on (ltb (used_amount B i) (size B i)) (price_margin B i) (omega arith)))
+
+  pub pool_margin_phase_lem : Phase (cell_tables B) (Margins ∷ Memberships ∷ []) PoolMargins (Temporaries ∷ []) (loop B.m (greatest_block B.n B.m B.n PoolMargin (λ p i. Membership i p) Margin))
+  unfolding pool_margin
+  pool_margin_phase_lem =
+      greatest_fills B PoolMargins (Margins ∷ Memberships ∷ []) refl refl refl refl refl B.n (λ p i. Membership i p) Margin (λ p i. eqb (pool_index B i) p) (margin B) (margin_small B)
+      (λ p i t r l h. h Memberships refl i p l r) (λ i t l h. h Margins refl i 0 l (lit< tt)) (λ p. refl)
+
+  pub best_margin_phase_lem : Phase (cell_tables B) (PoolMargins ∷ ReachTests ∷ []) BestMargins (Temporaries ∷ []) (loop B.m (greatest_block B.n B.m B.m BestMargin (λ p q. ReachTest (q * B.m + p)) PoolMargin))
+  unfolding best_margin
+  best_margin_phase_lem =
+      greatest_fills B BestMargins (PoolMargins ∷ ReachTests ∷ []) refl refl refl refl refl B.m (λ p q. ReachTest (q * B.m + p)) PoolMargin (λ p q. reached B q p) (pool_margin B) (pool_margin_small B)
+      (λ p q t r l h. h ReachTests refl (q * B.m + p) 0 (digits_lt l r) (lit< tt) ∙ rw (digits_div q r, digits_mod q r) refl) (λ q t l h. h PoolMargins refl q 0 l (lit< tt)) (λ p. refl)
+
+  price_value : (p j : ℕ) (t : State) → p < B.m → j < pool_results → Holds (cell_tables B) (BestMargins ∷ Shifts ∷ ZeroCells ∷ []) t → run (price_block p) t (at Prices p j) ≡ price_cells B p j
   price_value p zero t b c h =
-      rw (eqb_same p, h ZeroCells refl 0 0 (lit< tt) (lit< tt), h Shifts refl 0 0 (lit< tt) (lit< tt), h HighestOffers refl p 0 b (lit< tt), less_small 0 (highest_offer B p) (lit≤ tt) (omega (arith, highest_offer_small B sound p)))
-      (on_times (ltb 0 (highest_offer B p)) (minus (highest_offer B p) (suc price_limit)) (omega arith))
+      rw (eqb_same p, h ZeroCells refl 0 0 (lit< tt) (lit< tt), h Shifts refl 0 0 (lit< tt) (lit< tt), h BestMargins refl p 0 b (lit< tt), less_small 0 (best_margin B p) (lit≤ tt) (omega (arith, best_margin_small B p)))
+      (on_times (ltb 0 (best_margin B p)) (minus (suc price_limit) (best_margin B p)) (omega arith))
   price_value p (suc zero) t b c h =
-      rw (eqb_same p, h ZeroCells refl 0 0 (lit< tt) (lit< tt), h HighestOffers refl p 0 b (lit< tt)) (less_small 0 (highest_offer B p) (lit≤ tt) (omega (arith, highest_offer_small B sound p)))
+      rw (eqb_same p, h ZeroCells refl 0 0 (lit< tt) (lit< tt), h BestMargins refl p 0 b (lit< tt)) (less_small 0 (best_margin B p) (lit≤ tt) (omega (arith, best_margin_small B p)))
   price_value p (suc (suc j)) t b c h = absurd (omega arith)
 
-  pub price_phase : Phase (cell_tables B) (HighestOffers ∷ Shifts ∷ ZeroCells ∷ []) Prices (Temporaries ∷ []) (loop B.m price_block)
-  price_phase = fill_rows (cell_tables B) (HighestOffers ∷ Shifts ∷ ZeroCells ∷ []) Prices (Temporaries ∷ []) refl refl price_block (λ p. rw (eqb_same p)) price_value
+  pub price_phase : Phase (cell_tables B) (BestMargins ∷ Shifts ∷ ZeroCells ∷ []) Prices (Temporaries ∷ []) (loop B.m price_block)
+  price_phase = fill_rows (cell_tables B) (BestMargins ∷ Shifts ∷ ZeroCells ∷ []) Prices (Temporaries ∷ []) refl refl price_block (λ p. rw (eqb_same p)) price_value

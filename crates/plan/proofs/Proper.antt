@@ -1,15 +1,16 @@
 -- Every order of the work names cells of the families' tables and writes no input (`work_each`).
-use Rattle.std.specs.Prelude.{Bool, true, false, cond, [], ◌∷◌, ℕ, ◌*◌, ◌%◌, ◌/◌, ◌^◌, ◌≤◌, ◌<◌, ltb}
+use Rattle.std.specs.Prelude.{Bool, true, false, cond, [], ◌∷◌, ℕ, ◌+◌, ◌*◌, ◌%◌, ◌/◌, ◌^◌, ◌≤◌, ◌<◌, ltb}
 use Rattle.std.proofs.Common.{arith}
+use Rattle.std.proofs.Math.Arith.{digits_lt}
 use Rattle.definitions.specs.Limits.{modulus}
 use Rattle.laws.specs.Rows.{row_column}
 use Rattle.laws.specs.Tests.{Eq?, same, diff, eq?}
 use Rattle.plan.specs.Orders.{OrderOn, constant, operate}
 use Rattle.plan.specs.Layout.{Named}
-use Rattle.plan.specs.Names.{Family, number, Name, at, family, Amounts, SizesBefore, SizesWith, RanksBefore, RanksWith, family_count, rows_of, columns_of, Capacity, Temporary, ZeroCell, Demand, Placement}
+use Rattle.plan.specs.Names.{Family, number, Name, at, family, Amounts, SizesBefore, SizesWith, RanksBefore, RanksWith, family_count, rows_of, columns_of, Capacity, Temporary, ZeroCell, Demand, Placement, ReachTest, PoolMargin, BestMargin}
 use Rattle.plan.specs.Subsets.{leaves, lowest, others, lowest_below, others_below}
 use Rattle.plan.specs.Running.{subset_order, subset_block, lowered}
-use Rattle.plan.specs.Blocks.{cut_turn, test_at, test_order, gain_turn, cost_turn, rest_start, rest_cell, rest_turn, flow_block, taken_cell, take_turn}
+use Rattle.plan.specs.Blocks.{cut_turn, test_at, test_order, gain_turn, cost_turn, rest_start, rest_cell, rest_turn, flow_block, taken_cell, take_turn, reach_cell, reach_turn, greatest_turn}
 use Rattle.plan.specs.Loops.{loop}
 use Rattle.plan.specs.Entries.{◌&◌, All, all_loop}
 use Rattle.plan.specs.Phased.{EachPart, EachPhase}
@@ -74,6 +75,18 @@ module _ (n m : ℕ) where
       & (λ i S a b. cost_proper u i S (ranks i a) h b)
       & tt
 
+  -- whether pool l / m reaches pool l % m, by set S
+  reach_proper : (l S : ℕ) → l < m * m → S < 2 ^ m → All Proper (reach_turn l (l / m) (l % m) S)
+  reach_proper l S h c = ((omega arith, omega arith, omega arith, go (leaves S (l / m) (l % m))), tt)
+    where
+      go : (x : Bool) → Valid (reach_cell x S)
+      go true = omega arith
+      go false = omega arith
+
+  -- the best margin of pool p, by pool q
+  best_proper : (p q : ℕ) → p < m → q < m → All Proper (greatest_turn (BestMargin p) (ReachTest (q * m + p)) (PoolMargin q))
+  best_proper p q a b = let line : q * m + p < m * m = digits_lt b a in omega arith & omega arith
+
   -- ---- line l
 
   module _ (l : ℕ) (h : l < m * m) where
@@ -136,8 +149,11 @@ module _ (n m : ℕ) where
       & ((λ i j a b. omega arith) & tt)
       & ((λ p j a b. omega arith) & (λ p i a b. omega arith) & tt)
       & ((λ _ S a b. subset_proper Placement (λ p l. omega arith) S b) & (λ _ S a b. omega arith) & tt)
+      & ((λ _ S a b. omega arith) & tt)
+      & ((λ l j a b. omega arith) & (λ l S a b. reach_proper l S a b) & tt)
       & ((λ l j a b. (line_proper l a).0) & (λ l S a b. rest_proper l a S b) & (λ l j a b. (line_proper l a).1) & (λ l S a b. take_proper l a S b) & tt)
       & ((λ i j a b. omega arith) & tt)
       & ((λ p j a b. omega arith) & (λ p i a b. omega arith & omega arith) & tt)
+      & ((λ p j a b. omega arith) & (λ p q a b. best_proper p q a b) & tt)
       & ((λ p j a b. omega arith) & tt)
       & tt

@@ -1,13 +1,13 @@
 -- What each family of cells holds in the end: a number of the book or one of the theory's closed forms (`value_of`).
-use Rattle.std.specs.Prelude.{ℕ, zero, suc, ◌+◌, ◌*◌, eqb}
+use Rattle.std.specs.Prelude.{ℕ, zero, suc, ◌+◌, ◌*◌, ◌/◌, ◌%◌, ltb, eqb}
 use Rattle.definitions.specs.Limits.{price_limit}
 use Rattle.definitions.specs.Arithmetic.{on, residue}
 use Rattle.definitions.specs.Book.{Book, pool, price, quantity, size, capacity}
 use Rattle.laws.specs.AcceptedBook.{pool_index}
 use Rattle.plan.proofs.Holds.{Tables}
-use Rattle.plan.specs.Names.{Family, Bids, Capacities, Amounts, Flows, Prices, Temporaries, ZeroCells, Units, Shifts, PoolNumbers, Sides, Sizes, PositivePrices, Doubles, Keys, Nexts, Memberships, PoolSizes, Demands, Subsets, Cuts, SizesBefore, RanksBefore, SizesWith, RanksWith, Uses, Placements, Slacks, Offers, HighestOffers, rows_of, columns_of}
-pub use Rattle.theory.specs.ClosedForms.{positive_price, side, key, pool_size, taken_of, line_flow, closed_price, closed_presence}
-unfoldable pub use Rattle.theory.specs.ClosedForms.{demand, cut, size_before, size_with, rank, used_amount, accepted_amount, placement, slack, rest_of, flow_of, slack_after, offer, highest_offer}
+use Rattle.plan.specs.Names.{Family, Bids, Capacities, Amounts, Flows, Prices, Temporaries, ZeroCells, Units, Shifts, PoolNumbers, Sides, Sizes, PositivePrices, Doubles, Keys, Nexts, Memberships, PoolSizes, Demands, Subsets, Cuts, SizesBefore, RanksBefore, SizesWith, RanksWith, Uses, Placements, Slacks, SlackTests, ReachTests, Margins, PoolMargins, BestMargins, rows_of, columns_of}
+pub use Rattle.theory.specs.ClosedForms.{positive_price, side, key, pool_size, taken_of, line_flow, unparted, price_margin, closed_price, closed_presence}
+unfoldable pub use Rattle.theory.specs.ClosedForms.{demand, cut, size_before, size_with, rank, used_amount, accepted_amount, placement, slack, rest_of, flow_of, slack_after, reached, margin, pool_margin, best_margin}
 
 module _ (B : Book) where
   -- the bid table as sealed
@@ -51,8 +51,11 @@ module _ (B : Book) where
   value_of Uses i j = used_amount B i
   value_of Placements p j = placement B p
   value_of Slacks S j = slack B S
-  value_of Offers i j = offer B i
-  value_of HighestOffers p j = highest_offer B p
+  value_of SlackTests S j = on (ltb 0 (slack B S)) 1
+  value_of ReachTests l j = on (reached B (l / B.m) (l % B.m)) 1
+  value_of Margins i j = margin B i
+  value_of PoolMargins p j = pool_margin B p
+  value_of BestMargins p j = best_margin B p
 
   -- the families with their rows, columns and numbers, for book B
   abbrev pub cell_tables : Tables

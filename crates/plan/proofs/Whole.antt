@@ -11,7 +11,8 @@ use Rattle.plan.proofs.Bids.{unit_phase, shift_phase, pool_number_phase, side_ph
 use Rattle.plan.proofs.Cuts.{demand_phase_lem, cut_phase_lem}
 use Rattle.plan.proofs.Ranks.{size_before_phase_lem, rank_before_phase, size_with_phase, rank_with_phase, use_phase, amount_phase}
 use Rattle.plan.proofs.Lines.{placement_phase_lem, slack_phase_lem, flow_phase}
-use Rattle.plan.proofs.Prices.{offer_phase, highest_offer_phase_lem, price_phase}
+use Rattle.plan.proofs.Reaching.{slack_test_phase, reach_phase_lem}
+use Rattle.plan.proofs.Prices.{margin_phase, pool_margin_phase_lem, best_margin_phase_lem, price_phase}
 use Rattle.plan.specs.Phased.{flat}
 use Rattle.plan.specs.Table.{work}
 
@@ -49,10 +50,13 @@ module _ (B : Book) (sound : Sound B) where
       (then (cell_tables B) (phase_step (cell_tables B) _ (amount_phase B sound) refl)
       (then (cell_tables B) (phase_step (cell_tables B) _ (placement_phase_lem B sound) refl)
       (then (cell_tables B) (phase_step (cell_tables B) _ (slack_phase_lem B sound) refl)
+      (then (cell_tables B) (phase_step (cell_tables B) _ (slack_test_phase B sound) refl)
+      (then (cell_tables B) (phase_step (cell_tables B) _ (reach_phase_lem B sound) refl)
       (then (cell_tables B) (phase_step (cell_tables B) _ (flow_phase B sound) refl)
-      (then (cell_tables B) (phase_step (cell_tables B) _ (offer_phase B sound) refl)
-      (then (cell_tables B) (phase_step (cell_tables B) _ (highest_offer_phase_lem B sound) refl)
-      (phase_step (cell_tables B) _ (price_phase B sound) refl)))))))))))))))))))))))))
+      (then (cell_tables B) (phase_step (cell_tables B) _ (margin_phase B sound) refl)
+      (then (cell_tables B) (phase_step (cell_tables B) _ (pool_margin_phase_lem B sound) refl)
+      (then (cell_tables B) (phase_step (cell_tables B) _ (best_margin_phase_lem B sound) refl)
+      (phase_step (cell_tables B) _ (price_phase B sound) refl))))))))))))))))))))))))))))
       refl
 
   pub work_done : (s : State) → Holds (cell_tables B) inputs s → Holds (cell_tables B) outputs (run (flat (work B.n B.m)) s)

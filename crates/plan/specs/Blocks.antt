@@ -2,7 +2,7 @@
 use Rattle.std.specs.Prelude.{Bool, true, false, cond, List, [], ◌∷◌, ℕ, suc, ltb}
 use Rattle.definitions.specs.Limits.{price_limit, greatest_positive}
 use Rattle.plan.specs.Orders.{OrderOn, constant, sum, difference, product, less, equal}
-use Rattle.plan.specs.Names.{Name, at, Units, Shifts, Pool, Price, Quantity, Capacity, Amount, Flow, PriceOfPool, Presence, Temporary, ZeroCell, One, Shift, PoolNumber, Side, Size, PositivePrice, Double, Key, Next, Membership, PoolSize, Demand, Subset, Cut, SizeBefore, RankBefore, SizeWith, RankWith, Used, Placement, Slack, Offer, HighestOffer}
+use Rattle.plan.specs.Names.{Name, at, Units, Shifts, Pool, Price, Quantity, Capacity, Amount, Flow, PriceOfPool, Presence, Temporary, ZeroCell, One, Shift, PoolNumber, Side, Size, PositivePrice, Double, Key, Next, Membership, PoolSize, Demand, Subset, Cut, SizeBefore, RankBefore, SizeWith, RankWith, Used, Placement, Slack, SlackTest, ReachTest, Margin, BestMargin}
 use Rattle.plan.specs.Subsets.{leaves, complement}
 use Rattle.plan.specs.Running.{lowered, raised}
 
@@ -16,7 +16,7 @@ Block = List (OrderOn Name)
 abbrev pub unit_block : ℕ → Block
 unit_block i = constant (at Units i 0) 1 ∷ []
 
--- what makes a price positive
+-- the limit of prices and 1: what makes a price positive
 abbrev pub shift_block : ℕ → Block
 shift_block i = constant (at Shifts i 0) (suc price_limit) ∷ []
 
@@ -168,30 +168,48 @@ taken_cell false false l = ZeroCell
 abbrev pub take_turn : (l a b S : ℕ) → Block
 take_turn l a b S = difference (Slack S) (Slack S) (taken_cell (leaves S a b) (leaves S b a) l) ∷ []
 
+-- ---- which pool reaches which
+
+-- has set S slack, before the lines take any?
+abbrev pub slack_test_block : ℕ → Block
+slack_test_block S = less (SlackTest S) ZeroCell (Slack S) ∷ []
+
+-- whether pool l / m reaches pool l % m, 1 to start from
+abbrev pub reach_start : ℕ → Block
+reach_start l = constant (ReachTest l) 1 ∷ []
+
+-- what the test is multiplied by: whether the set that parts the pools has slack, or 1; every turn is one order
+abbrev pub reach_cell : Bool → (S : ℕ) → Name
+reach_cell true S = SlackTest S
+reach_cell false S = One
+
+-- pool a of line l does not reach its pool b, if set S parts them and has no slack
+abbrev pub reach_turn : (l a b S : ℕ) → Block
+reach_turn l a b S = product (ReachTest l) (ReachTest l) (reach_cell (leaves S a b) S) ∷ []
+
 -- ---- the prices
 
--- the positive price of bid i, if it is a sale accepted above 0
-abbrev pub offer_block : ℕ → Block
-offer_block i =
-    less (Temporary 0) ZeroCell (Amount i)
-    ∷ difference (Temporary 1) One (Side i)
-    ∷ product (Temporary 0) (Temporary 0) (Temporary 1)
-    ∷ product (Offer i) (Temporary 0) (PositivePrice i)
+-- what the price of bid i leaves to the limit and 1, if the bid is not used up
+abbrev pub margin_block : ℕ → Block
+margin_block i =
+    less (Temporary 0) (Used i) (Size i)
+    ∷ difference (Temporary 1) Shift (Price i)
+    ∷ product (Margin i) (Temporary 0) (Temporary 1)
     ∷ []
 
--- the highest offer in pool p, 0 to start from
-abbrev pub highest_offer_start : ℕ → Block
-highest_offer_start p = constant (HighestOffer p) 0 ∷ []
+-- a greatest in d, 0 to start from
+abbrev pub greatest_start : Name → Block
+greatest_start d = constant d 0 ∷ []
 
--- one step of the greatest: the offer of bid i if it is in pool p
-abbrev pub highest_offer_turn : (p i : ℕ) → Block
-highest_offer_turn p i = product (Temporary 2) (Membership i p) (Offer i) ∷ raised (HighestOffer p) (Temporary 2)
+-- one step of the greatest: the product of a test and a number
+abbrev pub greatest_turn : (d test number : Name) → Block
+greatest_turn d test number = product (Temporary 2) test number ∷ raised d (Temporary 2)
 
--- has pool p an offer? The highest, without the shift, is its price
+-- has any pool that reaches pool p a margin? The greatest, taken from the limit and 1, is its price
 abbrev pub price_block : ℕ → Block
 price_block p =
-    less (Presence p) ZeroCell (HighestOffer p)
-    ∷ difference (Temporary 0) (HighestOffer p) Shift
+    less (Presence p) ZeroCell (BestMargin p)
+    ∷ difference (Temporary 0) Shift (BestMargin p)
     ∷ product (PriceOfPool p) (Temporary 0) (Presence p)
     ∷ []
 

@@ -4,7 +4,7 @@ use Rattle.std.specs.Prelude.{ℕ, ◌*◌, ◌^◌, Bool, ◌&&◌, List, [], �
 use Rattle.definitions.specs.Limits.{bid_numbers, price_place, quantity_place, pool_results}
 use Rattle.plan.specs.declared.Place.{Place}
 pub use Rattle.plan.specs.declared.Family.{Family}
-pub use Rattle.plan.specs.declared.Family.TheVariants.{Bids, Capacities, Amounts, Flows, Prices, Temporaries, ZeroCells, Units, Shifts, PoolNumbers, Sides, Sizes, PositivePrices, Doubles, Keys, Nexts, Memberships, PoolSizes, Demands, Subsets, Cuts, SizesBefore, RanksBefore, SizesWith, RanksWith, Uses, Placements, Slacks, Offers, HighestOffers}
+pub use Rattle.plan.specs.declared.Family.TheVariants.{Bids, Capacities, Amounts, Flows, Prices, Temporaries, ZeroCells, Units, Shifts, PoolNumbers, Sides, Sizes, PositivePrices, Doubles, Keys, Nexts, Memberships, PoolSizes, Demands, Subsets, Cuts, SizesBefore, RanksBefore, SizesWith, RanksWith, Uses, Placements, Slacks, SlackTests, ReachTests, Margins, PoolMargins, BestMargins}
 
 -- the place of each family on the sheet, for n bids, m pools, and so many lines and sets of pools: its number, its rows and its columns
 abbrev pub family_place : (n m lines sets : ℕ) → Family → Place
@@ -36,8 +36,11 @@ family_place n m lines sets RanksWith = (24, n, 1)
 family_place n m lines sets Uses = (25, n, 1)
 family_place n m lines sets Placements = (26, m, 1)
 family_place n m lines sets Slacks = (27, sets, 1)
-family_place n m lines sets Offers = (28, n, 1)
-family_place n m lines sets HighestOffers = (29, m, 1)
+family_place n m lines sets SlackTests = (28, sets, 1)
+family_place n m lines sets ReachTests = (29, lines, 1)
+family_place n m lines sets Margins = (30, n, 1)
+family_place n m lines sets PoolMargins = (31, m, 1)
+family_place n m lines sets BestMargins = (32, m, 1)
 
 -- the number of a family
 abbrev pub number : Family → ℕ
@@ -56,11 +59,12 @@ abbrev pub families : List Family
 families =
     Bids ∷ Capacities ∷ Amounts ∷ Flows ∷ Prices ∷ Temporaries ∷ ZeroCells ∷ Units ∷ Shifts ∷ PoolNumbers
     ∷ Sides ∷ Sizes ∷ PositivePrices ∷ Doubles ∷ Keys ∷ Nexts ∷ Memberships ∷ PoolSizes ∷ Demands ∷ Subsets
-    ∷ Cuts ∷ SizesBefore ∷ RanksBefore ∷ SizesWith ∷ RanksWith ∷ Uses ∷ Placements ∷ Slacks ∷ Offers ∷ HighestOffers ∷ []
+    ∷ Cuts ∷ SizesBefore ∷ RanksBefore ∷ SizesWith ∷ RanksWith ∷ Uses ∷ Placements ∷ Slacks ∷ SlackTests ∷ ReachTests
+    ∷ Margins ∷ PoolMargins ∷ BestMargins ∷ []
 
 -- how many there are
 abbrev pub family_count : ℕ
-family_count = 30
+family_count = 33
 
 -- family k
 abbrev pub family_at : ℕ → Family
@@ -212,10 +216,22 @@ Placement p = at Placements p 0
 abbrev pub Slack : ℕ → Name
 Slack S = at Slacks S 0
 
--- the positive price of bid i if it is a sale accepted above 0, else 0
-abbrev pub Offer : ℕ → Name
-Offer i = at Offers i 0
+-- 1 if set S has slack before the lines take any, else 0
+abbrev pub SlackTest : ℕ → Name
+SlackTest S = at SlackTests S 0
 
--- the greatest offer of the bids in pool p, 0 if none
-abbrev pub HighestOffer : ℕ → Name
-HighestOffer p = at HighestOffers p 0
+-- 1 if pool l / m reaches pool l % m, else 0
+abbrev pub ReachTest : ℕ → Name
+ReachTest l = at ReachTests l 0
+
+-- what the price of bid i leaves to the limit and 1, 0 if the bid is used up
+abbrev pub Margin : ℕ → Name
+Margin i = at Margins i 0
+
+-- the greatest margin of the bids in pool p, 0 if none
+abbrev pub PoolMargin : ℕ → Name
+PoolMargin p = at PoolMargins p 0
+
+-- the greatest of the pools that reach pool p, 0 if none
+abbrev pub BestMargin : ℕ → Name
+BestMargin p = at BestMargins p 0

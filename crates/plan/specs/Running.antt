@@ -1,8 +1,9 @@
--- Loops that add up in a cell (`gather`), lower it to a least or raise it to a greatest number, and that sum over all subsets (`subset_sums`).
-use Rattle.std.specs.Prelude.{◌≡◌, refl, Bool, true, false, List, [], ◌∷◌, ℕ, zero, suc, ◌+◌, ◌≤◌, ◌<◌, min, max, eqb}
+-- Loops that add up in a cell (`gather`), lower it to a least or raise it to a greatest number, make one test of many (`conjoin`), and that sum over
+-- all subsets (`subset_sums`).
+use Rattle.std.specs.Prelude.{◌≡◌, refl, Bool, true, false, ◌&&◌, List, [], ◌∷◌, ℕ, suc, ◌+◌, ◌≤◌, ◌<◌, min, max, eqb}
 use Rattle.std.proofs.Common.{ap, ◌∙◌, arith}
 use Rattle.definitions.specs.Limits.{modulus, greatest_positive}
-use Rattle.definitions.specs.Arithmetic.{sum_to}
+use Rattle.definitions.specs.Arithmetic.{on, sum_to, all_to}
 use Rattle.laws.specs.Sum.{sum_prefix}
 use Rattle.laws.specs.Extremes.{min_to, max_to, min_le_start, max_below}
 use Rattle.plan.specs.Orders.{OrderOn, constant, sum, difference, product, less, State, run}
@@ -80,6 +81,17 @@ raise J c n f v small turn s j e =
     (λ i t l ih.
     let r : J (run (f i) t) × (run (f i) t c ≡ max (t c) (v i)) = turn i l t ih.0 (omega (arith, ih.1, max_below i v greatest_positive (λ k a. small k (omega arith)))) in
     (r.0, r.1 ∙ ap (λ (x : ℕ). max x (v i)) ih.1))
+
+-- c, which holds a test, takes it and another
+abbrev pub Tests : (State → Type 0) → Name → List (OrderOn Name) → Bool → Type 0
+Tests J c l v = (t : State) (x : Bool) → J t → t c ≡ on x 1 → J (run l t) × (run l t c ≡ on (x && v) 1)
+
+-- from 1
+pub conjoin : (J : State → Type 0) (c : Name) (n : ℕ) (f : ℕ → List (OrderOn Name)) (v : ℕ → Bool) → ((i : ℕ) → i < n → Tests J c (f i) (v i))
+    → (s : State) → J s → s c ≡ 1 → J (run (loop n f) s) × (run (loop n f) s c ≡ on (all_to n v) 1)
+unfolding all_to
+conjoin J c n f v turn s j e =
+    loop_invariant (λ k t. J t × (t c ≡ on (all_to k v) 1)) n f s (j, e) (λ i t l ih. turn i l t (all_to i v) ih.0 ih.1)
 
 -- ---- the sums over all subsets of cells X 0 .. X (m - 1), each from that without its lowest pool
 

@@ -4,9 +4,9 @@ use Rattle.std.specs.Prelude.{◌≡◌, refl, List, [], ◌∷◌, ◌++◌, �
 use Rattle.std.proofs.Common.{arith}
 use Rattle.definitions.specs.Arithmetic.{sum_to}
 use Rattle.plan.specs.Orders.{OrderOn}
-use Rattle.plan.specs.Names.{Temporaries, number, family_at, family_count, rows_of, columns_of, Name, Demand, SizeBefore, RankBefore, SizeWith, RankWith, Placement}
+use Rattle.plan.specs.Names.{Temporaries, number, family_at, family_count, rows_of, columns_of, Name, Demand, SizeBefore, RankBefore, SizeWith, RankWith, Placement, Membership, ReachTest, Margin, PoolMargin, BestMargin}
 use Rattle.plan.specs.Running.{subset_block}
-use Rattle.plan.specs.Blocks.{Block, unit_block, shift_block, pool_number_block, side_block, size_block, positive_price_block, double_block, key_block, next_block, membership_block, pool_size_block, demand_start, demand_turn, cut_start, cut_turn, test_order, gain_turn, size_before_start, cost_start, cost_turn, size_with_block, use_block, amount_block, placement_start, placement_turn, slack_block, rest_start, rest_turn, flow_block, take_turn, offer_block, highest_offer_start, highest_offer_turn, price_block, zero_block}
+use Rattle.plan.specs.Blocks.{Block, unit_block, shift_block, pool_number_block, side_block, size_block, positive_price_block, double_block, key_block, next_block, membership_block, pool_size_block, demand_start, demand_turn, cut_start, cut_turn, test_order, gain_turn, size_before_start, cost_start, cost_turn, size_with_block, use_block, amount_block, placement_start, placement_turn, slack_block, rest_start, rest_turn, flow_block, take_turn, slack_test_block, reach_start, reach_turn, margin_block, greatest_start, greatest_turn, price_block, zero_block}
 use Rattle.plan.specs.Loops.{loop}
 use Rattle.plan.specs.Phased.{PartOf, PhaseOf, part, phase, stretch, row_of, even_length, phase_in}
 
@@ -104,6 +104,16 @@ module _ (n m : ℕ) where
   abbrev pub slack_phase : Phase
   slack_phase = phase 1 (subset_part (λ _. Placement) ∷ part (2 ^ m) 1 (λ _. slack_block) (λ _ S. refl) ∷ [])
 
+  -- ---- whether pool l / m reaches pool l % m, for which every set that parts them has slack; before the lines use the slacks up
+
+  -- a start, then a turn for each set
+  abbrev pub reach_phase : Phase
+  reach_phase = phase (m * m) (each 1 reach_start (λ l. refl) ∷ part (2 ^ m) 1 (λ l. reach_turn l (l / m) (l % m)) (λ l S. refl) ∷ [])
+
+  -- row l: that test
+  abbrev pub reach_block : ℕ → Block
+  reach_block l = row_of reach_phase l
+
   -- ---- line l, from l / m to l % m: what it leaves unused, its flow, and the slacks after it
 
   -- the rest's start and a turn for each set, the flow, and a turn for each set
@@ -128,15 +138,24 @@ module _ (n m : ℕ) where
   abbrev pub line_block : ℕ → Block
   line_block l = row_of line_phase l
 
-  -- ---- the highest offer in each pool
+  -- ---- the greatest in d p over some columns of the products of test p i and number i: in each pool of its bids' margins, then of the pools that reach it
 
-  -- its start, then a turn for each bid
-  abbrev pub highest_offer_phase : Phase
-  highest_offer_phase = phase m (each 1 highest_offer_start (λ p. refl) ∷ part n 5 highest_offer_turn (λ p i. refl) ∷ [])
+  -- a start, then a turn for each column
+  abbrev pub greatest_phase : (columns : ℕ) → (ℕ → Name) → (ℕ → ℕ → Name) → (ℕ → Name) → Phase
+  greatest_phase columns d test number =
+      phase m (each 1 (λ p. greatest_start (d p)) (λ p. refl) ∷ part columns 5 (λ p i. greatest_turn (d p) (test p i) (number i)) (λ p i. refl) ∷ [])
 
-  -- row p: the highest offer in pool p
-  abbrev pub highest_offer_block : ℕ → Block
-  highest_offer_block p = row_of highest_offer_phase p
+  -- row p
+  abbrev pub greatest_block : (columns : ℕ) → (ℕ → Name) → (ℕ → ℕ → Name) → (ℕ → Name) → ℕ → Block
+  greatest_block columns d test number p = row_of (greatest_phase columns d test number) p
+
+  -- of the margins of a pool's bids
+  abbrev pub pool_margin_phase : Phase
+  pool_margin_phase = greatest_phase n PoolMargin (λ p i. Membership i p) Margin
+
+  -- of the pools that reach a pool
+  abbrev pub best_margin_phase : Phase
+  best_margin_phase = greatest_phase m BestMargin (λ p q. ReachTest (q * m + p)) PoolMargin
 
   -- ---- the scratch
 
@@ -174,9 +193,12 @@ module _ (n m : ℕ) where
       ∷ phase n (each 4 amount_block (λ i. refl) ∷ [])
       ∷ placement_phase
       ∷ slack_phase
+      ∷ phase 1 (part (2 ^ m) 1 (λ _. slack_test_block) (λ _ S. refl) ∷ [])
+      ∷ reach_phase
       ∷ line_phase
-      ∷ phase n (each 4 offer_block (λ i. refl) ∷ [])
-      ∷ highest_offer_phase
+      ∷ phase n (each 3 margin_block (λ i. refl) ∷ [])
+      ∷ pool_margin_phase
+      ∷ best_margin_phase
       ∷ phase m (each 3 price_block (λ p. refl) ∷ [])
       ∷ []
 
@@ -190,7 +212,7 @@ module _ (n m : ℕ) where
 
 -- how many phases the table has
 abbrev pub phase_count : ℕ
-phase_count = 26
+phase_count = 29
 
 pub table_length : (n m : ℕ) → length (table n m) ≡ phase_count
 unfolding table work

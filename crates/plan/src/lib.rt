@@ -60,15 +60,21 @@ pub enum Family {
     Placements,
     // What each set of pools could still take.
     Slacks,
-    // The positive price of each sale accepted above 0, 0 for other bids.
-    Offers,
-    // The highest offer in each pool.
-    HighestOffers,
+    // Whether a set of pools has slack, as 1 or 0.
+    SlackTests,
+    // Whether a pool reaches another, as 1 or 0, by the number of the line between them.
+    ReachTests,
+    // What each bid's price leaves to the limit and 1, 0 for a bid that is used up.
+    Margins,
+    // The greatest margin in each pool.
+    PoolMargins,
+    // The greatest margin in the pools that reach each pool.
+    BestMargins,
 }
 
 impl Family {
     // How many families there are.
-    pub const COUNT: usize = 30;
+    pub const COUNT: usize = 33;
 
     // The families, each at its number.
     pub const ALL: [Family; Family::COUNT] = [
@@ -100,8 +106,11 @@ impl Family {
         Family::Uses,
         Family::Placements,
         Family::Slacks,
-        Family::Offers,
-        Family::HighestOffers,
+        Family::SlackTests,
+        Family::ReachTests,
+        Family::Margins,
+        Family::PoolMargins,
+        Family::BestMargins,
     ];
 }
 

@@ -5,7 +5,8 @@ use Rattle.std.proofs.Common.{ap, ap₂, ◌∙◌}
 use Rattle.definitions.specs.Arithmetic.{join_to}
 use Rattle.definitions.specs.Book.{Book}
 use Rattle.definitions.specs.Examples.{book_two, text_two, printed_two}
-use Rattle.definitions.specs.Clearing.{Clearing, Best, Permitted, welfare, missing}
+use Rattle.definitions.specs.Clearing.{Clearing, Best, Permitted, welfare}
+use Rattle.definitions.specs.PoolPrice.{missing}
 use Rattle.definitions.specs.Answers.{Refusal, unless}
 use Rattle.definitions.specs.Calls.{AcceptedBook}
 use Rattle.definitions.specs.Outcome.{result_of, clearing_results, plan_run, clear_welfare}
@@ -47,7 +48,7 @@ at : {A : Type 0} {xs ys : List A} (i : ℕ) (d : A) → xs ≡ ys → get_or xs
 at i d e = ap (λ xs. get_or xs i d) e
 
 two_results : (c : Clearing) → Best book_two c → Permitted book_two c
-    → clearing_results book_two c ≡ pos 3 ∷ pos 3 ∷ pos 0 ∷ pos 3 ∷ pos 0 ∷ pos 0 ∷ pos 20 ∷ pos 1 ∷ pos 0 ∷ pos 0 ∷ []
+    → clearing_results book_two c ≡ pos 3 ∷ pos 3 ∷ pos 0 ∷ pos 3 ∷ pos 0 ∷ pos 0 ∷ pos 20 ∷ pos 1 ∷ pos 30 ∷ pos 1 ∷ []
 unfolding book_two clearing_results join_to listed
 two_results c best permitted =
     let two = proved_examples.two in
