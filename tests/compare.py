@@ -1,16 +1,18 @@
 """Holds settle to the solver and the reader written apart: python3 tests/compare.py SETTLE [BOOKS] [SEED]
 
-SETTLE is the program. Sound books of every n and m, faulty books, damaged texts and the texts at the edges of what is readable are run through it,
-and its whole output is checked: amounts, flows, prices, welfare, refusals."""
+SETTLE is the program. The stored books of tests/exhaustive.py, sound books of every n and m, faulty books, damaged texts and the texts at the edges
+of what is readable are run through it, and its whole output is checked: amounts, flows, prices, welfare, refusals. The prices are also taken by the
+words of request 4 of document 02 from the lines that are printed."""
 import collections
 import subprocess
 
 import arguments
 import books
+import exhaustive
 import solver
 import text
 
-# sound books, those that traded, those in which some line carried all it could
+# sound books, those that traded, those in which some line carried all it could; prices, those that come from another pool
 TALLY = collections.Counter()
 
 
@@ -18,6 +20,10 @@ def ran(program, data):
     done = subprocess.run([program], input=data, stdout=subprocess.PIPE, stderr=subprocess.PIPE, timeout=60)
     assert done.returncode == 0 and not done.stderr, (done.returncode, done.stderr)
     return done.stdout.decode("ascii")
+
+
+def price_lines(prices):
+    return [f"price {p + 1} {'none' if v is None else v}" for p, v in enumerate(prices)]
 
 
 def listed(n, m, bids, capacities, output):
@@ -29,8 +35,7 @@ def listed(n, m, bids, capacities, output):
     flows = [[0] * m for _ in range(m)]
     rest = [line for line in lines if not line.startswith("line ")]
     expected = [f"bid {i + 1} {x}" for i, x in enumerate(accepted)]
-    expected += [f"price {p + 1} {'none' if v is None else v}" for p, v in enumerate(prices)]
-    expected += [f"welfare {solver.welfare(bids, accepted)}"]
+    expected += price_lines(prices) + [f"welfare {solver.welfare(bids, accepted)}"]
     found = [] if rest == expected else [f"{rest} for {expected}"]
     carried = [line for line in lines if line.startswith("line ")]
     if lines[n:n + len(carried)] != carried:
@@ -44,9 +49,14 @@ def listed(n, m, bids, capacities, output):
             continue
         last = a * m + b
         flows[a][b] = flow
+    own = price_lines(exhaustive.prices(n, m, bids, capacities, accepted, flows))
+    if own != [line for line in rest if line.startswith("price ")]:
+        found.append(f"{own} by the printed lines")
     TALLY["sound"] += 1
     TALLY["traded"] += any(accepted)
     TALLY["bound"] += any(0 < capacities[a][b] == flows[a][b] for a in range(m) for b in range(m))
+    TALLY["prices"] += m - prices.count(None)
+    TALLY["imported"] += exhaustive.imported(n, m, bids, accepted, prices)
     return found + solver.faults(n, m, bids, capacities, accepted, flows)
 
 
@@ -63,6 +73,8 @@ def faults(data, output):
 
 def texts(draw, count):
     yield from text.EDGES
+    for book, _ in exhaustive.stored():
+        yield books.text(*book).encode()
     for n in range(solver.BIDS + 1):
         for m in range(1, solver.POOLS + 1):
             yield books.text(*books.sound(draw, n, m)).encode()
@@ -83,9 +95,10 @@ def main():
         found = faults(data, ran(program, data))
         assert not found, (data[:2000], found)
         tried += 1
-    assert TALLY["traded"] > TALLY["sound"] / 2 and TALLY["bound"] > TALLY["sound"] / 5, TALLY
+    assert TALLY["traded"] > TALLY["sound"] / 2 and TALLY["bound"] > TALLY["sound"] / 5 and TALLY["imported"] > TALLY["prices"] / 6, TALLY
     print(f"{tried} texts: settle answers as the solver and the reader written apart; "
-          f"of {TALLY['sound']} sound books {TALLY['traded']} traded, in {TALLY['bound']} some line carried all it could")
+          f"of {TALLY['sound']} sound books {TALLY['traded']} traded, in {TALLY['bound']} some line carried all it could; "
+          f"of {TALLY['prices']} prices {TALLY['imported']} come from another pool")
 
 
 if __name__ == "__main__":

@@ -1,24 +1,61 @@
 """Tries every clearing of small books, and holds tests/solver.py to document 01's own words: greatest used amounts in
 dictionary order along the merit order, and greatest welfare; and to its examples. The welfare is held to request 3 of document 02, summed sales
-first, and a further clearing of each book, right or wrong, to request 2: feasible, and none has greater welfare.
+first, and a further clearing of each book, right or wrong, to request 2: feasible, and none has greater welfare. The prices are held to request 4:
+its words give them by all the flows that make the best clearing's amounts feasible, the same by each; and they are what one more unit costs.
 One command: python3 tests/exhaustive.py [BOOKS] [SEED]"""
+import collections
 import itertools
 
 import arguments
 import clearings
 import solver
 
-# document 01's examples 1 to 7 and the book of its costly mistakes: m, lines, bids, and as much of the result as it prints
+# document 01's examples 1 to 7 and the book of its costly mistakes: m, lines, bids, and as much of the result as it prints, with the prices by request 4
 EXAMPLES = [
     (1, {}, [(1, 20, -10), (1, 30, 6)], {"accepted": [6, 6], "welfare": 60, "prices": [20]}),
-    (2, {(1, 2): 3}, [(1, 20, -10), (2, 30, 6)], {"accepted": [3, 3], "welfare": 30, "prices": [20, None]}),
-    (1, {}, [(1, 25, -5), (1, 25, 5)], {"accepted": [5, 5], "welfare": 0}),
-    (1, {}, [(1, 10, -5), (1, 30, 4), (1, 30, 4)], {"accepted": [5, 4, 1]}),
-    (1, {}, [(1, -10, -4), (1, -20, 4)], {"accepted": [0, 0]}),
-    (3, {(1, 2): 5, (2, 3): 2}, [(1, 10, -9), (2, 15, 4), (3, 40, 6)], {"accepted": [5, 3, 2], "welfare": 75}),
+    (2, {(1, 2): 3}, [(1, 20, -10), (2, 30, 6)], {"accepted": [3, 3], "welfare": 30, "prices": [20, 30]}),
+    (1, {}, [(1, 25, -5), (1, 25, 5)], {"accepted": [5, 5], "welfare": 0, "prices": [25]}),
+    (1, {}, [(1, 10, -5), (1, 30, 4), (1, 30, 4)], {"accepted": [5, 4, 1], "prices": [30]}),
+    (1, {}, [(1, -10, -4), (1, -20, 4)], {"accepted": [0, 0], "prices": [-10]}),
+    (3, {(1, 2): 5, (2, 3): 2}, [(1, 10, -9), (2, 15, 4), (3, 40, 6)], {"accepted": [5, 3, 2], "welfare": 75, "prices": [10, 15, 40]}),
     (2, {(1, 2): 7, (2, 1): 7}, [], {"accepted": [], "welfare": 0, "prices": [None, None]}),
-    (4, {(1, 2): 4, (2, 4): 4, (1, 3): 4, (3, 4): 4}, [(1, 10, -4), (2, 20, -4), (4, 30, 8)], {"accepted": [4, 4, 8]}),
+    (4, {(1, 2): 4, (2, 4): 4, (1, 3): 4, (3, 4): 4}, [(1, 10, -4), (2, 20, -4), (4, 30, 8)], {"accepted": [4, 4, 8], "prices": [30, 30, 30, 30]}),
 ]
+
+# further books for the prices, worked out by hand in the same form
+PRICED = [
+    # line 1 to 2 has capacity 0, which is full, and line 2 to 1 is open: gas can be had from pool 2 in pool 1, and not the other way
+    (2, {(2, 1): 5}, [(1, 20, -4), (2, 10, -4)], {"accepted": [0, 0], "prices": [10, 10]}),
+    (2, {(2, 1): 5}, [(1, 10, -4), (2, 20, -4)], {"accepted": [0, 0], "prices": [10, 20]}),
+    # the same with gas on the full line: only pool 1 can take from pool 2, and finds nothing cheaper there
+    (2, {(1, 2): 3, (2, 1): 4}, [(1, 20, -9), (2, 30, -1), (2, 40, 6)], {"accepted": [3, 1, 4], "prices": [20, 40]}),
+    # the sale is used up, and a purchase in another pool sets the price, back along the line that serves it
+    (2, {(1, 2): 5}, [(1, 10, -3), (2, 15, 8)], {"accepted": [3, 3], "prices": [15, 15]}),
+    # three lines in a row, in every order of the pools: the cheap sale is had up to the other end, although the pools there have sales of their own
+    *((4, {(a, b): 5, (b, c): 5, (c, d): 5}, [(a, 10, -9), (b, 20, -1), (c, 20, -1), (d, 20, -1), (d, 40, 3)],
+       {"accepted": [3, 0, 0, 0, 3], "prices": [10, 10, 10, 10]}) for a, b, c, d in itertools.permutations(range(1, 5))),
+    # such a row from pool 3 by 1 and 4 to 2, with the middle line full and the dearer sale behind it used up
+    (4, {(3, 1): 9, (1, 4): 3, (4, 2): 9}, [(3, 10, -9), (4, 20, -2), (2, 40, 6)], {"accepted": [3, 2, 5], "prices": [10, 40, 10, 40]}),
+    # the same with the only sale used up: the purchase sets all prices, back along three lines, two of which are full
+    (4, {(3, 1): 3, (1, 4): 9, (4, 2): 3}, [(3, 10, -3), (2, 40, 6)], {"accepted": [3, 3], "prices": [40, 40, 40, 40]}),
+    # the same with no gas on the lines: nothing can be had at their upper end
+    (4, {(3, 1): 5, (1, 4): 5, (4, 2): 5}, [(2, 20, -1), (4, 30, -1)], {"accepted": [0, 0], "prices": [None, 20, None, 30]}),
+    # lines both ways: the same amounts are feasible with flows both ways on the pair, and then one of the lines may be full
+    (2, {(1, 2): 5, (2, 1): 3}, [(1, 10, -2), (2, 40, -1), (2, 30, 2)], {"accepted": [2, 0, 2], "prices": [30, 30]}),
+    (2, {(1, 2): 3, (2, 1): 2}, [(1, 10, -9), (2, 40, -1), (2, 30, 2)], {"accepted": [2, 0, 2], "prices": [10, 10]}),
+    # all at one price
+    (2, {(1, 2): 4}, [(1, 25, -5), (2, 25, -5), (2, 25, 5)], {"accepted": [4, 1, 5], "prices": [25, 25]}),
+    # nothing is left of the cheaper bids: a withdrawn one, a sale accepted in full, a purchase not accepted
+    (1, {}, [(1, -5, 0), (1, 5, -6), (1, 10, 4), (1, 20, -9), (1, 30, 8)], {"accepted": [0, 6, 0, 2, 8], "prices": [20]}),
+    # a withdrawn bid alone
+    (2, {(1, 2): 1, (2, 1): 1}, [(1, 20, 0)], {"accepted": [0], "prices": [None, None]}),
+]
+
+
+def stored():
+    """The books of EXAMPLES and PRICED, and what is known of each."""
+    for m, lines, bids, printed in EXAMPLES + PRICED:
+        yield (len(bids), m, bids, [[lines.get((a, b), 0) for b in range(1, m + 1)] for a in range(1, m + 1)]), printed
 
 
 def earlier(bids, i, j):
@@ -47,10 +84,27 @@ def running_sums(bids, accepted):
     return list(itertools.accumulate(sales + purchases, initial=0)), len(sales)
 
 
-def highest(m, bids, accepted):
-    """Each pool's highest limit price among its sales accepted above 0, None with none."""
-    sold = [(pool, price) for (pool, price, quantity), x in zip(bids, accepted) if quantity <= 0 and x > 0]
-    return [max((price for pool, price in sold if pool == p), default=None) for p in range(1, m + 1)]
+def steps(m, capacities, flows):
+    """One step goes from a to b where line a to b is not full or line b to a carries something."""
+    return [[flows[a][b] < capacities[a][b] or flows[b][a] > 0 for b in range(m)] for a in range(m)]
+
+
+def prices(n, m, bids, capacities, accepted, flows):
+    """Each pool's price, None if it is missing: the least limit price among bids with used amount below their size, in a pool from which the pool in
+    question can be reached."""
+    step = steps(m, capacities, flows)
+    reached = [{p} for p in range(m)]  # from where each pool can be reached: a pool reaches itself, then what reaches it by one step more
+    for _ in range(m):
+        reached = [reached[b].union(*(reached[a] for a in range(m) if step[a][b])) for b in range(m)]
+    used = [quantity - x if quantity > 0 else x for (_, _, quantity), x in zip(bids, accepted)]
+    left = [(pool - 1, price) for (pool, price, quantity), x in zip(bids, used) if x < abs(quantity)]
+    return [min((price for pool, price in left if pool in reached[p]), default=None) for p in range(m)]
+
+
+def imported(n, m, bids, accepted, found):
+    """How many of some prices come from another pool: with no lines they would be others."""
+    none = [[0] * m for _ in range(m)]
+    return sum(price != own for price, own in zip(found, prices(n, m, bids, none, accepted, none)))
 
 
 def feasible(n, m, bids, capacities, accepted, flows):
@@ -65,39 +119,46 @@ def feasible(n, m, bids, capacities, accepted, flows):
     return not any(more)
 
 
-def carried(m, capacities, need):
-    """Whether some flows bring each pool p exactly need[p] more than it sends (lines tried one by one)."""
-    lines = [(a, b) for a in range(m) for b in range(m) if a != b and capacities[a][b] > 0]
-
-    def go(k, need):
-        if k == len(lines):
-            return not any(need)
-        a, b = lines[k]
-        for f in range(capacities[a][b] + 1):
-            rest = list(need)
-            rest[b] -= f
-            rest[a] += f
-            if go(k + 1, rest):
-                return True
-        return False
-    return go(0, list(need))
+def carrying(m, capacities):
+    """All flows that the lines can carry, both ways on a pair too: for what they bring each pool more than it sends, the flows that do so."""
+    lines = [(a, b) for a in range(m) for b in range(m) if capacities[a][b] > 0]
+    found = collections.defaultdict(list)
+    for loads in itertools.product(*(range(capacities[a][b] + 1) for a, b in lines)):
+        flows, brought = [[0] * m for _ in range(m)], [0] * m
+        for (a, b), load in zip(lines, loads):
+            flows[a][b] = load
+            brought[a] -= load
+            brought[b] += load
+        found[tuple(brought)].append(flows)
+    return found
 
 
 def best(n, m, bids, capacities):
+    """The amounts of the best clearing, the greatest welfare, and all flows that make these amounts feasible."""
     order = sorted(range(n), key=lambda i: sum(earlier(bids, j, i) for j in range(n)))
+    carried = carrying(m, capacities)
     greatest, most = None, None
     for accepted in itertools.product(*(range(abs(q) + 1) for _, _, q in bids)):
         need = [0] * m
         for (pool, _, q), x in zip(bids, accepted):
             need[pool - 1] += x if q > 0 else -x
-        if sum(need) != 0 or not carried(m, capacities, need):
+        if tuple(need) not in carried:
             continue
         used = [bids[i][2] - accepted[i] if bids[i][2] > 0 else accepted[i] for i in order]
         if greatest is None or used > greatest[0]:
-            greatest = used, list(accepted)
+            greatest = used, list(accepted), carried[tuple(need)]
         w = welfare(bids, accepted)
         most = w if most is None else max(most, w)
-    return greatest[1], most
+    return greatest[1], most, greatest[2]
+
+
+def one_more(n, m, bids, capacities, most, p):
+    """What one more unit costs in pool p, where the greatest welfare is known: what is lost of it if the unit is bought there at a price above all others.
+    None if it can't be had."""
+    above = solver.PRICE + 1
+    wanted = bids + [(p + 1, above, 1)]
+    gained = solver.welfare(wanted, solver.clear(n + 1, m, wanted, capacities)[0]) - most
+    return above - gained if gained else None
 
 
 def small(draw):
@@ -114,30 +175,46 @@ def small(draw):
     return n, m, bids, capacities
 
 
+def solved(n, m, bids, capacities):
+    """Tries every clearing of a book and holds the solver to them. What it gives, and with which flows the amounts are feasible."""
+    accepted, found = solver.clear(n, m, bids, capacities)
+    merited, most, carried = best(n, m, bids, capacities)
+    assert accepted == merited, (n, m, bids, capacities, accepted, merited)
+    assert solver.welfare(bids, accepted) == welfare(bids, accepted) == most, (n, m, bids, capacities, most)
+    own = solver.flows_of(n, m, bids, capacities, accepted)
+    assert own in carried and feasible(n, m, bids, capacities, accepted, own), (n, m, bids, capacities, accepted, own)
+    for flows in carried:
+        assert prices(n, m, bids, capacities, accepted, flows) == found, (n, m, bids, capacities, accepted, found, flows)
+    assert found == [one_more(n, m, bids, capacities, most, p) for p in range(m)], (n, m, bids, capacities, found)
+    sums, sales = running_sums(bids, accepted)
+    assert sums[sales] == solver.sales_welfare(bids, accepted) and sums[-1] == most, (bids, accepted, sums, most)
+    return {"accepted": accepted, "welfare": most, "prices": found}, carried
+
+
 def main():
     books, draw = arguments.taken(0, 2000)
-    for m, lines, bids, printed in EXAMPLES:
-        accepted, prices = solver.clear(len(bids), m, bids, [[lines.get((a, b), 0) for b in range(1, m + 1)] for a in range(1, m + 1)])
-        found = {"accepted": accepted, "welfare": solver.welfare(bids, accepted), "prices": prices}
-        assert printed == {part: found[part] for part in printed}, (bids, found, printed)
-    traded = rightly = 0
+    for book, printed in stored():
+        found, _ = solved(*book)
+        assert printed == {part: found[part] for part in printed}, (book, found, printed)
+    seen = collections.Counter()
     for _ in range(books):
         n, m, bids, capacities = small(draw)
-        accepted, prices = solver.clear(n, m, bids, capacities)
-        merited, most = best(n, m, bids, capacities)
-        assert accepted == merited and prices == highest(m, bids, merited), (n, m, bids, capacities, accepted, prices, merited)
-        assert solver.welfare(bids, accepted) == welfare(bids, accepted) == most, (n, m, bids, capacities, most)
-        assert feasible(n, m, bids, capacities, accepted, solver.flows_of(n, m, bids, capacities, accepted)), (n, m, bids, capacities, accepted)
-        sums, sales = running_sums(bids, accepted)
-        assert sums[sales] == solver.sales_welfare(bids, accepted) and sums[-1] == most, (bids, accepted, sums, most)
-        traded += any(accepted)
+        found, carried = solved(n, m, bids, capacities)
+        seen["traded"] += any(found["accepted"])
+        seen["several"] += len(carried) > 1
+        seen["stepped"] += any(steps(m, capacities, flows) != steps(m, capacities, carried[0]) for flows in carried)
+        seen["prices"] += m - found["prices"].count(None)
+        seen["imported"] += imported(n, m, bids, found["accepted"], found["prices"])
         amounts, flows = clearings.drawn(draw, (n, m, bids, capacities))
-        yes = feasible(n, m, bids, capacities, amounts, flows) and welfare(bids, amounts) == most
+        yes = feasible(n, m, bids, capacities, amounts, flows) and welfare(bids, amounts) == found["welfare"]
         assert solver.right(n, m, bids, capacities, amounts, flows) == yes, (n, m, bids, capacities, amounts, flows, yes)
-        rightly += yes
-    assert 0 < rightly < books
-    print(f"document 01's {len(EXAMPLES)} books as it prints them; {books} small books, of which {traded} trade: every clearing tried, all as solved; "
-          f"a further clearing of each, {rightly} of them right, told as tried")
+        seen["right"] += yes
+    assert 0 < seen["right"] < books
+    assert seen["several"] > books / 4 and seen["stepped"] > books / 20 and seen["imported"] > seen["prices"] / 5, seen
+    print(f"document 01's {len(EXAMPLES)} books as it prints them, and {len(PRICED)} for the prices; {books} small books, of which {seen['traded']} trade: "
+          f"every clearing tried, all as solved; {seen['several']} are feasible with several flows, {seen['stepped']} of them with other steps between pools, "
+          f"and the prices are the same by each; of {seen['prices']} prices {seen['imported']} come from another pool; "
+          f"a further clearing of each, {seen['right']} of them right, told as tried")
 
 
 if __name__ == "__main__":

@@ -7,15 +7,15 @@ import sys
 import orders
 
 KINDS = [("constant", "#9e9e9e"), ("sum", "#1565c0"), ("difference", "#6a1b9a"), ("product", "#2e7d32"), ("less", "#c62828"), ("equal", "#ef6c00")]
-WIDTH, HEIGHT, LEFT, TOP = 1000, 560, 70, 88
+WIDTH, HEIGHT, LEFT, TOP = 1000, 560, 70, 103
 
 
 def phases(n, m):
     """Where each phase begins."""
     sets = 2**m
     lengths = [("constants", 2 + m), ("bids", 8 * n), ("membership", 2 * n * m), ("cuts", m * (1 + 2 * n) + sets * (2 + m * m)),
-               ("ranks", n * (m + n * (1 + 2 * m)) + 2 * n * (1 + 6 * sets) + n * m), ("amounts", 5 * n),
-               ("flows", m * (1 + 2 * n) + 2 * sets + m * m * (2 + 5 * sets)), ("prices", 4 * n + m * (4 + 5 * n))]
+               ("ranks", n * (m + n * (1 + 2 * m)) + 2 * n * (1 + 6 * sets) + n * m), ("amounts", 5 * n), ("slacks", m * (1 + 2 * n) + 2 * sets),
+               ("reach", sets + m * m * (1 + sets)), ("flows", m * m * (2 + 5 * sets)), ("prices", 3 * n + m * (1 + 5 * n) + m * (1 + 5 * m) + 3 * m)]
     starts, at = [], 0
     for name, length in lengths:
         starts.append((name, at))
@@ -40,7 +40,7 @@ def drawn(n, m, found):
     for name, start in starts:
         row = max((r + 1 for r, end in labels if end > x(start)), default=0)
         labels.append((row, x(start) + 8 * len(name)))
-        top = TOP - 38 + 15 * row
+        top = TOP - 53 + 15 * row
         out.append(f'<path d="M{x(start):.1f} {top}V{TOP + HEIGHT}" stroke="#bdbdbd"/><text x="{x(start) + 3:.1f}" y="{top}">{name}</text>')
     for kind, (_, colour) in enumerate(KINDS):
         points = "".join(f"M{x(k):.1f} {y(o[1]):.1f}h1.6" for k, o in enumerate(found) if o[0] == kind)

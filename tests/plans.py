@@ -1,10 +1,11 @@
 """Runs the unit's own plans on the machine written apart, and holds what they leave to the solver, and README's table of orders to their lengths:
-python3 tests/plans.py DUMP [PLANS] [SEED], DUMP being the program of tests/dump.c."""
+python3 tests/plans.py DUMP [PLANS] [SEED], DUMP being the program of tests/dump.c. The stored books of tests/exhaustive.py are among those run."""
 import pathlib
 import subprocess
 
 import arguments
 import books
+import exhaustive
 import orders
 import solver
 
@@ -44,21 +45,24 @@ def check(found, n, m, bids, capacities):
     accepted, prices = solver.clear(n, m, bids, capacities)
     assert cells == orders.cleared(bids, capacities, accepted, flows, prices), (n, m, bids, capacities, accepted, flows, prices, cells)
     assert not solver.faults(n, m, bids, capacities, accepted, flows), (n, m, bids, capacities, flows)
+    assert prices == exhaustive.prices(n, m, bids, capacities, accepted, flows), (n, m, bids, capacities, accepted, flows, prices)
 
 
 def main():
     dump, count, draw = arguments.taken(1, 100)
     figures = table()
     assert len(figures) == 6
-    # README's counts, then every n and m within 260 plans, in leaps so that few plans reach small and great n too
-    counts = list(figures) + [(27 * k % (solver.BIDS + 1), k % solver.POOLS + 1) for k in range(count)]
+    stored = [book for book, _ in exhaustive.stored()]
+    # README's counts and those of the stored books, then every n and m within 260 plans, in leaps so that few plans reach small and great n too
+    counts = list(figures) + [(n, m) for n, m, _, _ in stored] + [(27 * k % (solver.BIDS + 1), k % solver.POOLS + 1) for k in range(count)]
     counts = list(dict.fromkeys(counts))
     for n, m in counts:
         found = plan(dump, n, m)
         assert figures.get((n, m)) in (None, [len(found), limit(n, m)]), (n, m, figures[n, m], len(found))
-        for _ in range(BOOKS):
-            check(found, *books.sound(draw, n, m))
-    print(f"{len(counts)} plans, each with {BOOKS} books, clear on the machine written apart as the solver does; README's table of orders holds")
+        for book in [book for book in stored if book[:2] == (n, m)] + [books.sound(draw, n, m) for _ in range(BOOKS)]:
+            check(found, *book)
+    print(f"{len(counts)} plans, each with {BOOKS} books, and {len(stored)} stored books clear on the machine written apart as the solver does; "
+          "README's table of orders holds")
 
 
 if __name__ == "__main__":

@@ -1,8 +1,8 @@
 """The best clearing of a book, written apart from the unit: by augmenting paths, with no cuts and no plan.
 
 A book is (n, m, bids, capacities): bids a list of (pool, price, quantity), pools from 1, capacities an m by m list of rows.
-`refusal` gives document 01's number and place, or None. `clear` gives accepted amounts and pool prices, `flows_of` some flows that go with
-such amounts. `right` tells whether a clearing from elsewhere is feasible and has the greatest welfare.
+`refusal` gives document 01's number and place, or None. `clear` gives accepted amounts and pool prices, by request 4 of document 02, `flows_of`
+some flows that go with such amounts. `right` tells whether a clearing from elsewhere is feasible and has the greatest welfare.
 """
 from collections import deque
 
@@ -82,7 +82,8 @@ class Network:
 
 
 def used_amounts(n, m, bids, capacities):
-    """The greatest used amounts in merit order: each bid in turn brings as much as still reaches the purchases' sizes."""
+    """The greatest used amounts in merit order: each bid in turn brings as much as still reaches the purchases' sizes; and the residual capacities that
+    are left at the end."""
     source, sink = m, m + 1
     network = Network(m + 2)
     for pool, _, quantity in bids:
@@ -97,17 +98,35 @@ def used_amounts(n, m, bids, capacities):
         network.add(source, pool - 1, abs(quantity))
         used[i] = network.augment(source, sink)
         network.rest[source][pool - 1] = 0
-    return used
+    return used, network.rest
+
+
+def reaching(m, rest, p):
+    """The pools from which pool p can be reached, itself included, found from p backwards. From a to b more could be brought exactly where line a to b is
+    not full or line b to a carries something, which could be sent less: where a residual capacity is left."""
+    found, queue = {p}, deque([p])
+    while queue:
+        b = queue.popleft()
+        for a in range(m):
+            if a not in found and rest[a][b] > 0:
+                found.add(a)
+                queue.append(a)
+    return found
+
+
+def prices_of(m, bids, used, rest):
+    """The price of each pool, at which one more unit could be had there: the least among the bids with something left in the pools that reach it."""
+    prices = []
+    for p in range(m):
+        pools = reaching(m, rest, p)
+        prices.append(min((price for (pool, price, q), x in zip(bids, used) if x < abs(q) and pool - 1 in pools), default=None))
+    return prices
 
 
 def clear(n, m, bids, capacities):
-    used = used_amounts(n, m, bids, capacities)
+    used, rest = used_amounts(n, m, bids, capacities)
     accepted = [q - x if q > 0 else x for (_, _, q), x in zip(bids, used)]
-    prices = []
-    for p in range(1, m + 1):
-        sold = [price for (pool, price, q), x in zip(bids, accepted) if pool == p and q <= 0 and x > 0]
-        prices.append(max(sold) if sold else None)
-    return accepted, prices
+    return accepted, prices_of(m, bids, used, rest)
 
 
 def welfare(bids, accepted):

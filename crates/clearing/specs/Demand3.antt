@@ -4,9 +4,10 @@ use Rattle.std.proofs.Common.{subst, sym, ap, ◌∙◌, arith}
 use Rattle.definitions.specs.declared.Order.{Order}
 use Rattle.definitions.specs.Limits.{cell_count}
 use Rattle.definitions.specs.Book.{Book}
-use Rattle.definitions.specs.Sheet.{sealed_sheet}
+use Rattle.definitions.specs.Sheet.{sealed_sheet, price_cell, presence_cell}
 use Rattle.definitions.specs.Clearing.{Clearing, Feasible, Best, welfare}
-use Rattle.definitions.specs.Machine.{AllWellFormed, run_of}
+use Rattle.definitions.specs.PoolPrice.{pool_price, price_residue, presence}
+use Rattle.definitions.specs.Machine.{AllWellFormed, cell, run_of}
 use Rattle.definitions.specs.Answers.{Refusal, none, unless}
 use Rattle.definitions.specs.Bytes.{orders_bytes}
 use Rattle.definitions.specs.Calls.{AcceptedBook, seal_refusal, counts_refusal}
@@ -16,6 +17,7 @@ use Rattle.definitions.specs.RunningSum.{sales_welfare, clear_sales_welfare}
 use Rattle.laws.specs.Refusal.{first_left}
 use Rattle.laws.specs.AcceptedBook.{accepted_sound}
 use Rattle.theory.specs.BestClearing.{best_welfare, welfare_of_best, sales_of_best}
+use Rattle.theory.proofs.PoolPrice.{price_of_best}
 use Rattle.runner.specs.Runs.{RunsAs, orders_bytes_run}
 use Rattle.plan.specs.Plan.{plan}
 use Rattle.plan.proofs.PlanOrders.{plan_orders, plan_length_limit}
@@ -44,6 +46,10 @@ pub record ClearedBy (orders : List Order) (A : Book) : Type 0 where
   pub greatest_welfare : (d : Clearing) → Feasible A d → welfare A d.accepted ≤ℤ clear_welfare plan A cell_count
   -- the welfare of the sales alone that is given is that of each best clearing (document 02, request 3)
   pub sales_given : (c : Clearing) → Best A c → clear_sales_welfare plan A cell_count ≡ sales_welfare A c.accepted
+  -- the prices left are those of each best clearing, whichever flows were chosen (document 02, request 4)
+  pub prices_given : (c : Clearing) → Best A c → (p : ℕ) → p < A.m
+      → (cell (run_of orders (sealed_sheet A)) (price_cell A.n A.m p) ≡ price_residue (pool_price A c p))
+      × (cell (run_of orders (sealed_sheet A)) (presence_cell A.n A.m p) ≡ presence (pool_price A c p))
 
 -- "Take every two books A and B that sealing accepts, with equal bid counts and equal pool counts. .. the plan is the same list of orders for
 -- both, byte for byte. .. and reports the same count for both. .. for n bids and m pools it is at most n × (100 × n + 40 × (m+1)^6) + 10,000."
@@ -88,6 +94,9 @@ module _ (A : Book) (accepted : AcceptedBook A) where
         welfare_given = λ c b. given_sum welfare ∙ welfare_of_best A accepted (result_of A (plan_run plan A)) c outcome.best b;
         greatest_welfare = λ d f. subst (λ (z : ℤ). welfare A d.accepted ≤ℤ z) (sym (given_sum welfare)) (best_welfare A accepted (result_of A (plan_run plan A)) outcome.best d f);
         sales_given = λ c b. given_sum sales_welfare ∙ sales_of_best A accepted (result_of A (plan_run plan A)) c outcome.best b;
+        prices_given = λ c b p l.
+            let same : pool_price A (result_of A (plan_run plan A)) p ≡ pool_price A c p = price_of_best A accepted (result_of A (plan_run plan A)) c outcome.best b p l in
+            (outcome.prices p l ∙ ap price_residue same, outcome.presences p l ∙ ap presence same);
       }
 
 -- a book is cleared by the plan of another of the same counts
