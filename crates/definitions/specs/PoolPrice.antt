@@ -28,14 +28,14 @@ pub data PoolPrice : Type 0 where
   present : ℤ → PoolPrice
 
 -- the lower of a price, if there is one, and another
-abbrev pub lower : PoolPrice → ℤ → PoolPrice
-lower missing z = present z
-lower (present y) z = present (cond (lt_z z y) z y)
+abbrev pub lower_price : PoolPrice → ℤ → PoolPrice
+lower_price missing z = present z
+lower_price (present y) z = present (cond (lt_z z y) z y)
 
 -- the least limit price among the first k bids that pass a test
 unfoldable pub least_price : Book → (ℕ → Bool) → (k : ℕ) → PoolPrice
 least_price B test zero = missing
-least_price B test (suc k) = cond (test k) (lower (least_price B test k) (price B k)) (least_price B test k)
+least_price B test (suc k) = cond (test k) (lower_price (least_price B test k) (price B k)) (least_price B test k)
 
 -- "It is the least limit price among bids with used amount below their size, in a pool from which the pool in question can be reached .. With no
 -- such bid the price is missing."

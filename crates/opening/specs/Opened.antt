@@ -9,7 +9,7 @@ use Rattle.definitions.specs.Limits.{pool_limit, price_limit, greatest_positive,
 use Rattle.definitions.specs.Arithmetic.{join_to, reading}
 use Rattle.definitions.specs.Book.{Book, price}
 use Rattle.definitions.specs.Sheet.{first_result, result_count, first_scratch, amount_cell, flow_cell, price_cell}
-use Rattle.definitions.specs.PoolPrice.{PoolPrice, missing, present, lower, least_price, supplies, pool_price, price_residue, presence}
+use Rattle.definitions.specs.PoolPrice.{PoolPrice, missing, present, lower_price, least_price, supplies, pool_price, price_residue, presence}
 use Rattle.definitions.specs.Machine.{cell}
 use Rattle.definitions.specs.Calls.{AcceptedBook, opened_results}
 use Rattle.definitions.specs.Outcome.{Outcome, result_of, price_numbers, clearing_results}
@@ -49,7 +49,7 @@ Limited : PoolPrice → Type 0
 Limited missing = Unit {0}
 Limited (present z) = nat_abs z ≤ price_limit
 
-lower_limited : (r : PoolPrice) (z : ℤ) → Limited r → nat_abs z ≤ price_limit → Limited (lower r z)
+lower_limited : (r : PoolPrice) (z : ℤ) → Limited r → nat_abs z ≤ price_limit → Limited (lower_price r z)
 unfolding Limited
 lower_limited missing z h l = l
 lower_limited (present y) z h l = go (lt_z z y)
@@ -63,7 +63,7 @@ unfolding least_price Limited
 least_limited B ok test zero l = tt
 least_limited B ok test (suc k) l = go (test k) (least_limited B ok test k (omega arith))
   where
-    go : (t : Bool) → Limited (least_price B test k) → Limited (cond t (lower (least_price B test k) (price B k)) (least_price B test k))
+    go : (t : Bool) → Limited (least_price B test k) → Limited (cond t (lower_price (least_price B test k) (price B k)) (least_price B test k))
     go true h = lower_limited (least_price B test k) (price B k) h (ok.price_size k (omega arith))
     go false h = h
 

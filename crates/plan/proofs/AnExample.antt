@@ -1,4 +1,4 @@
--- One run of the plan by computation, order by order: what it leaves on the whole sheet of a small book (`example_run`).
+-- Runs of the plan by computation, order by order: what they leave on the whole sheet of two small books (`example_run`, `prices_run`).
 use Rattle.std.specs.Prelude.{◌≡◌, refl, List, [], ◌∷◌, replicate, ℕ, ◌-◌, pos, neg_ℤ}
 use Rattle.definitions.specs.Limits.{cell_count}
 use Rattle.definitions.specs.Arithmetic.{sum_to}
@@ -25,3 +25,14 @@ three_pools_cleared =
 pub example_run : run_of (plan 3 3) (sealed_sheet three_pools) ≡ three_pools_cleared
 unfolding sum_to sealed_sheet run_of member lowest others scratch_count work table plan
 example_run = refl
+
+-- two pools, line 1 to 2 carries 3; (1,10,−3), (2,30,3): the sale is used up and the line is full, so that both pools have the price of the purchase,
+-- pool 1 from the other end of the line
+full_line : Book
+full_line = book 2 2 (pos 1 ∷ pos 10 ∷ neg_ℤ (pos 3) ∷ pos 2 ∷ pos 30 ∷ pos 3 ∷ []) (pos 0 ∷ pos 3 ∷ pos 0 ∷ pos 0 ∷ [])
+
+prices_run :
+    run_of (plan 2 2) (sealed_sheet full_line)
+    ≡ 1 ∷ 10 ∷ 2147483644 ∷ 2 ∷ 30 ∷ 3 ∷ 0 ∷ 3 ∷ 0 ∷ 0 ∷ 3 ∷ 3 ∷ 0 ∷ 3 ∷ 0 ∷ 0 ∷ 30 ∷ 1 ∷ 30 ∷ 1 ∷ replicate (cell_count - first_scratch 2 2) 0
+unfolding full_line sum_to sealed_sheet run_of member lowest others scratch_count work table plan
+prices_run = refl

@@ -7,7 +7,7 @@ use Rattle.std.specs.Int.Signed.{lt_z, ≤ℤ_refl}
 use Rattle.definitions.specs.Arithmetic.{on}
 use Rattle.definitions.specs.Book.{Book, price, size, in_pool}
 use Rattle.definitions.specs.Clearing.{Clearing, Feasible, Best}
-use Rattle.definitions.specs.PoolPrice.{PoolPrice, present, lower, least_price, supplies, reaches, pool_price, price_residue, presence}
+use Rattle.definitions.specs.PoolPrice.{PoolPrice, present, lower_price, least_price, supplies, reaches, pool_price, price_residue, presence}
 use Rattle.definitions.specs.Calls.{AcceptedBook}
 use Rattle.laws.specs.Any.{any_to_one}
 use Rattle.laws.specs.Extremes.{max_to, max_ext, max_of_groups}
@@ -34,7 +34,7 @@ module _ (B : Book) (test : ℕ → Bool) where
   at_false : (k : ℕ) {A : Type 0} → test k ≡ false → test k ≡ true → A
   at_false k e f = absurd (true≢false (sym f ∙ e))
 
-  least_next : (k : ℕ) (t : Bool) → test k ≡ t → {x : PoolPrice} → LeastPrice B test k x → LeastPrice B test (suc k) (cond t (lower x (price B k)) x)
+  least_next : (k : ℕ) (t : Bool) → test k ≡ t → {x : PoolPrice} → LeastPrice B test k x → LeastPrice B test (suc k) (cond t (lower_price x (price B k)) x)
   least_next k false e (none h) = none (all_below k h e)
   least_next k false e (some i l s h) = some i (omega arith) s (all_below k h (λ q. at_false k e q))
   least_next k true e (none h) = some k (omega arith) e (all_below k (λ j r q. at_false j (h j r) q) (λ q. ≤ℤ_refl (price B k)))

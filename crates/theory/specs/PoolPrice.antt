@@ -6,7 +6,7 @@ use Rattle.definitions.specs.Limits.{price_limit}
 use Rattle.definitions.specs.Arithmetic.{on, residue}
 use Rattle.definitions.specs.Book.{Book, price}
 use Rattle.definitions.specs.Machine.{minus}
-use Rattle.definitions.specs.PoolPrice.{PoolPrice, missing, present, lower, least_price, price_residue, presence}
+use Rattle.definitions.specs.PoolPrice.{PoolPrice, missing, present, lower_price, least_price, price_residue, presence}
 use Rattle.laws.specs.Tests.{Lt?, less, more, lt?}
 use Rattle.laws.specs.Extremes.{max_to}
 use Rattle.laws.specs.AcceptedBook.{Sound}
@@ -24,7 +24,7 @@ pub least_price_ext : (B : Book) (s t : ℕ → Bool) (k : ℕ) → ((i : ℕ) �
 unfolding least_price
 least_price_ext B s t zero e = refl
 least_price_ext B s t (suc k) e =
-    ap₂ (λ (x : Bool) (y : PoolPrice). cond x (lower y (price B k)) y) (e k (omega arith)) (least_price_ext B s t k (λ i l. e i (omega arith)))
+    ap₂ (λ (x : Bool) (y : PoolPrice). cond x (lower_price y (price B k)) y) (e k (omega arith)) (least_price_ext B s t k (λ i l. e i (omega arith)))
 
 -- ---- as a greatest
 
@@ -63,7 +63,7 @@ module _ (B : Book) (ok : Sound B) (test : ℕ → Bool) where
   greatest_margin (suc k) l = go (test k) (least_price B test k) (greatest_margin k (omega arith)) (bid_margin k l)
     where
       go : (t : Bool) (x : PoolPrice) → IsMargin x (greatest k) → IsMargin (present (price B k)) (price_margin B k)
-          → IsMargin (cond t (lower x (price B k)) x) (max (greatest k) (on t (price_margin B k)))
+          → IsMargin (cond t (lower_price x (price B k)) x) (max (greatest k) (on t (price_margin B k)))
       go false missing h q = omega arith
       go false (present z) h q = (omega (arith, h.0), omega (arith, h.1), omega (arith, h.2))
       go true missing h q = (omega (arith, q.0), omega (arith, q.1), omega (arith, q.2))
