@@ -22,7 +22,7 @@ use Rattle.sums.specs.SummedWelfare.{summed, summed_is, welfare_over_bids}
 use Rattle.feasible.specs.Tests.{sent_sizes}
 use Rattle.plan.specs.Plan.{plan}
 use Rattle.clearing.specs.PlanClears.{plan_outcome}
-use Rattle.clearing.specs.Demand3.{cleared_by_plan}
+use Rattle.clearing.proofs.Demand3.{cleared_by_plan}
 
 -- the numbers sent are a feasible clearing, and its welfare is the one that clearing gives
 unfoldable pub found_optimal : Book → (amounts flows : List ℤ) → Bool

@@ -21,7 +21,7 @@ use Rattle.opening.specs.Readings.{reading_at}
 use Rattle.plan.specs.Plan.{plan}
 use Rattle.clearing.specs.PlanClears.{plan_outcome}
 use Rattle.clearing.specs.Opens.{plan_opens}
-use Rattle.clearing.specs.Demand3.{cleared_by_plan}
+use Rattle.clearing.proofs.Demand3.{cleared_by_plan}
 
 module _ (B : Book) (accepted : AcceptedBook B) where
   abbrev left : List ℕ

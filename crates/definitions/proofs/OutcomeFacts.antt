@@ -99,11 +99,18 @@ a_price : (s : List ℕ) → Outcome book_one s → cell s (amount_cell 2 1 0) �
 unfolding book_one pool_price least_price any_to used reaches reaches_over
 a_price s h e f = (rw (e, f) at (h.prices 0 (omega arith)), rw (e, f) at (h.presences 0 (omega arith)))
 
--- by the sheet's own flows: where the line back carries nothing, pool 2 has no price from pool 1
+-- by the sheet's own flows: line 1 to 2 is full and line 2 to 1 carries nothing, so that pool 2 has its own price and not pool 1's
 by_flows : (s : List ℕ) → Outcome book_two s → cell s (amount_cell 2 2 0) ≡ 3 → cell s (amount_cell 2 2 1) ≡ 3
-    → cell s (flow_cell 2 2 0 1) ≡ 3 → cell s (flow_cell 2 2 1 0) ≡ 0 → cell s (price_cell 2 2 1) ≡ 30
+    → cell s (flow_cell 2 2 0 1) ≡ 3 → cell s (flow_cell 2 2 1 0) ≡ 0
+    → (cell s (price_cell 2 2 1) ≡ 30) × (cell s (presence_cell 2 2 1) ≡ 1)
 unfolding book_two pool_price least_price any_to used reaches reaches_over
-by_flows s h e f g k = rw (e, f, g, k) at (h.prices 1 (omega arith))
+by_flows s h e f g k = (rw (e, f, g, k) at (h.prices 1 (omega arith)), rw (e, f, g, k) at (h.presences 1 (omega arith)))
+
+-- a price below 0 stands in its cell as its residue: nothing is accepted, and the sale can be had
+negative_price : (s : List ℕ) → Outcome book_five s → cell s (amount_cell 2 1 0) ≡ 0 → cell s (amount_cell 2 1 1) ≡ 0
+    → (cell s (price_cell 2 1 0) ≡ 2147483637) × (cell s (presence_cell 2 1 0) ≡ 1)
+unfolding book_five pool_price least_price any_to used reaches reaches_over
+negative_price s h e f = (rw (e, f) at (h.prices 0 (omega arith)), rw (e, f) at (h.presences 0 (omega arith)))
 
 -- what is opened of a clearing: amounts, flows by rows, price and presence of each pool
 results :

@@ -25,18 +25,21 @@ steps :
 unfolding both_lines book_two
 steps = refl
 
--- ---- ways: four pools, lines 1 to 4, 4 to 3 and 3 to 2 carry 4, the first two are empty, the last carries 4: it leads back alone
+-- ---- ways
+
+-- four pools, lines 1 to 4, 4 to 3 and 3 to 2 of capacity 4
 
 row : Book
 row =
     book 0 4 []
     (pos 0 ∷ pos 0 ∷ pos 0 ∷ pos 4 ∷ pos 0 ∷ pos 0 ∷ pos 0 ∷ pos 0 ∷ pos 0 ∷ pos 4 ∷ pos 0 ∷ pos 0 ∷ pos 0 ∷ pos 0 ∷ pos 4 ∷ pos 0 ∷ [])
 
--- so many of the last line's 4
+-- flows: so much on the last line, nothing on the others
 abbrev carried : ℕ → ℕ → ℕ → ℕ
 carried k = (listed 4 [] (0 ∷ 0 ∷ 0 ∷ 0 ∷ 0 ∷ 0 ∷ 0 ∷ 0 ∷ 0 ∷ k ∷ 0 ∷ 0 ∷ 0 ∷ 0 ∷ 0 ∷ 0 ∷ [])).flow
 
--- pool 1 reaches pool 2 in three steps while the last line is not full; itself by none; none of the others reaches it
+-- pool 1 reaches pool 2 in three steps while the last line is not full, and pool 3 whether it is or not; pool 2 reaches pool 3 while the line carries
+-- something; pool 1 reaches itself, and none of the others reaches it
 ways :
     reaches row (carried 3) 0 1 ∷ reaches row (carried 4) 0 1 ∷ reaches row (carried 4) 0 2
     ∷ reaches row (carried 4) 1 2 ∷ reaches row (carried 0) 1 2
@@ -46,6 +49,21 @@ ways :
 unfolding row reaches reaches_over
 ways = refl
 
+-- the same pools in a row by their numbers, lines 1 to 2, 2 to 3 and 3 to 4 of capacity 1
+rising : Book
+rising =
+    book 0 4 []
+    (pos 0 ∷ pos 1 ∷ pos 0 ∷ pos 0 ∷ pos 0 ∷ pos 0 ∷ pos 1 ∷ pos 0 ∷ pos 0 ∷ pos 0 ∷ pos 0 ∷ pos 1 ∷ pos 0 ∷ pos 0 ∷ pos 0 ∷ pos 0 ∷ [])
+
+rising_ways :
+    reaches rising (listed 4 [] []).flow 0 3 ∷ reaches rising (listed 4 [] []).flow 3 0
+    ∷ reaches rising (listed 4 [] (0 ∷ 1 ∷ 0 ∷ 0 ∷ 0 ∷ 0 ∷ 1 ∷ 0 ∷ 0 ∷ 0 ∷ 0 ∷ 1 ∷ [])).flow 0 3
+    ∷ reaches rising (listed 4 [] (0 ∷ 1 ∷ 0 ∷ 0 ∷ 0 ∷ 0 ∷ 1 ∷ 0 ∷ 0 ∷ 0 ∷ 0 ∷ 1 ∷ [])).flow 3 0
+    ∷ []
+    ≡ true ∷ false ∷ false ∷ true ∷ []
+unfolding rising reaches reaches_over
+rising_ways = refl
+
 -- ---- prices in one pool: what is left of a sale, what a purchase takes, nothing of a withdrawn bid
 
 pool_prices :
@@ -53,12 +71,13 @@ pool_prices :
     ∷ pool_price book_four (listed 1 (5 ∷ 4 ∷ 1 ∷ []) []) 0
     ∷ pool_price book_five (listed 1 [] []) 0
     ∷ pool_price book_five (listed 1 (4 ∷ 4 ∷ []) []) 0
+    ∷ pool_price book_five (listed 1 (2 ∷ 2 ∷ []) []) 0
     ∷ pool_price merit (listed 1 [] []) 0
     ∷ pool_price merit (listed 1 (0 ∷ 0 ∷ 1 ∷ 4 ∷ 5 ∷ 0 ∷ []) []) 0
     ∷ pool_price merit (listed 1 (5 ∷ 5 ∷ 1 ∷ 4 ∷ 5 ∷ 0 ∷ []) []) 0
     ∷ pool_price merit (listed 1 (5 ∷ 5 ∷ 0 ∷ 0 ∷ 5 ∷ 0 ∷ []) []) 0
     ∷ []
-    ≡ present (pos 20) ∷ present (pos 30) ∷ present (neg_ℤ (pos 10)) ∷ present (neg_ℤ (pos 20))
+    ≡ present (pos 20) ∷ present (pos 30) ∷ present (neg_ℤ (pos 10)) ∷ present (neg_ℤ (pos 20)) ∷ present (neg_ℤ (pos 20))
     ∷ present (pos 10) ∷ present (pos 30) ∷ present (pos 30) ∷ missing ∷ []
 unfolding book_one book_four book_five merit pool_price least_price any_to used reaches reaches_over
 pool_prices = refl
@@ -86,7 +105,7 @@ sent_prices :
 unfolding three_ways pool_price least_price any_to used reaches reaches_over
 sent_prices = refl
 
--- a sale that no pool can be sent but its own and the next
+-- a sale in pool 2, which line 2 to 3 can take to pool 3 and no line to pool 1
 one_sale : Book
 one_sale = book 1 3 (pos 2 ∷ neg_ℤ (pos 7) ∷ neg_ℤ (pos 1) ∷ []) (pos 0 ∷ pos 9 ∷ pos 0 ∷ pos 0 ∷ pos 0 ∷ pos 1 ∷ pos 0 ∷ pos 0 ∷ pos 0 ∷ [])
 

@@ -11,7 +11,8 @@ use Rattle.definitions.specs.Calls.{AcceptedBook, seal_refusal, bids_refusal, ca
 use Rattle.laws.specs.Extremes.{min_to}
 use Rattle.laws.specs.AcceptedBook.{bids_of, book_of}
 use Rattle.theory.specs.Subsets.{member}
-use Rattle.theory.specs.ClosedForms.{subset_sum, demand, cut, size_before, size_with, rank, used_amount, accepted_amount, placement, slack, reached, supplied}
+use Rattle.theory.specs.ClosedForms.{subset_sum, demand, cut, size_before, size_with, rank, used_amount, accepted_amount, placement, slack, reached}
+use Rattle.theory.specs.PoolPrice.{supplied}
 use Rattle.laws.specs.SameAmounts.{welfare_same}
 use Rattle.theory.proofs.ClosedBest.{closed_accepted}
 use Rattle.theory.proofs.PoolPrice.{closed_pool_price}

@@ -8,7 +8,8 @@ use Rattle.definitions.specs.PoolPrice.{present, least_price}
 use Rattle.definitions.specs.Calls.{seal_refusal, bids_refusal, capacities_refusal, row_refusal, first_from}
 use Rattle.laws.specs.Extremes.{min_to}
 use Rattle.theory.specs.Subsets.{member}
-use Rattle.theory.specs.ClosedForms.{subset_sum, demand, cut, size_before, size_with, rank, used_amount, accepted_amount, placement, slack, reached, supplied}
+use Rattle.theory.specs.ClosedForms.{subset_sum, demand, cut, size_before, size_with, rank, used_amount, accepted_amount, placement, slack, reached}
+use Rattle.theory.specs.PoolPrice.{supplied}
 use Rattle.examples.specs.Examples.{listed, Cleared}
 use Rattle.examples.proofs.Examples.{cleared}
 

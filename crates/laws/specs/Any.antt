@@ -6,7 +6,7 @@ use Rattle.std.proofs.lemmas.Bool.{or_left, or_right, or_cases}
 use Rattle.definitions.specs.Arithmetic.{any_to}
 use Rattle.std.specs.Cmp.{first_so, second_so, both_ways}
 
-any_to_made : (n : ℕ) (t : ℕ → Bool) (i : ℕ) → i < n → t i ≡ true → any_to n t ≡ true
+pub any_to_made : (n : ℕ) (t : ℕ → Bool) (i : ℕ) → i < n → t i ≡ true → any_to n t ≡ true
 unfolding any_to
 any_to_made zero t i l e = absurd (omega arith)
 any_to_made (suc n) t i l e = go (eq-or-lt_of_le l) (λ l'. any_to_made n t i l' e)
@@ -15,19 +15,21 @@ any_to_made (suc n) t i l e = go (eq-or-lt_of_le l) (λ l'. any_to_made n t i l'
     go (inl p) ih = or_right (any_to n t) (t n) (ap t (sym (suc_inj p)) ∙ e)
     go (inr p) ih = or_left (any_to n t) (t n) (ih (omega arith))
 
--- the tests hold at index a alone, and there if s does
-module _ (a : ℕ) (s t : ℕ → Bool) where
-  any_to_says : (n : ℕ) → ((i : ℕ) → i < n → t i ≡ (eqb a i && s i)) → any_to n t ≡ true → s a ≡ true
-  unfolding any_to
-  any_to_says zero h e = absurd (true≢false (sym e))
-  any_to_says (suc n) h e = go (or_cases (any_to n t) (t n) e) (any_to_says n (λ i l. h i (omega arith)))
-    where
-      go : (any_to n t ≡ true) ⊎ (t n ≡ true) → (any_to n t ≡ true → s a ≡ true) → s a ≡ true
-      go (inl x) ih = ih x
-      go (inr x) ih =
-          let both : (eqb a n && s n) ≡ true = sym (h n (omega arith)) ∙ x in
-          ap s (eqb-true a n (first_so (eqb a n) (s n) both)) ∙ second_so (eqb a n) (s n) both
+pub any_to_some : (n : ℕ) (t : ℕ → Bool) → any_to n t ≡ true → (i : ℕ) × (i < n) × (t i ≡ true)
+unfolding any_to
+any_to_some zero t e = absurd (true≢false (sym e))
+any_to_some (suc n) t e = go (or_cases (any_to n t) (t n) e) (any_to_some n t)
+  where
+    go : (any_to n t ≡ true) ⊎ (t n ≡ true) → (any_to n t ≡ true → (i : ℕ) × (i < n) × (t i ≡ true)) → (i : ℕ) × (i < suc n) × (t i ≡ true)
+    go (inl x) ih = let found = ih x in (found.0, omega (arith, found.1), found.2)
+    go (inr x) ih = (n, omega arith, x)
 
-  pub any_to_one : (n : ℕ) → a < n → ((i : ℕ) → i < n → t i ≡ (eqb a i && s i)) → any_to n t ≡ s a
-  any_to_one n l h =
-      both_ways (any_to n t) (s a) (any_to_says n h) (λ e. any_to_made n t a l (h a l ∙ rw (eq-eqb a a refl) e))
+-- where the tests hold at index a alone, and there if s does
+pub any_to_one : (a : ℕ) (s t : ℕ → Bool) (n : ℕ) → a < n → ((i : ℕ) → i < n → t i ≡ (eqb a i && s i)) → any_to n t ≡ s a
+any_to_one a s t n l h = both_ways (any_to n t) (s a) says (λ e. any_to_made n t a l (h a l ∙ rw (eq-eqb a a refl) e))
+  where
+    says : any_to n t ≡ true → s a ≡ true
+    says e =
+        let found = any_to_some n t e in
+        let both : (eqb a found.0 && s found.0) ≡ true = sym (h found.0 found.1) ∙ found.2 in
+        ap s (eqb-true a found.0 (first_so (eqb a found.0) (s found.0) both)) ∙ second_so (eqb a found.0) (s found.0) both

@@ -115,7 +115,7 @@ pub fn test_order(i: usize, j: usize) -> NamedOrder
     less(own(0), first(ZeroCells, 0), first(ZeroCells, 0))
 }
 
-// Whether pool a of line l reaches its pool b, by the set s: if s parts them it must have slack.
+// Whether pool a of line l reaches its pool b, by the set s: if s holds a without b it must have slack.
 #[tactic(auto, using(crate::specs::Named::reach_chosen))]
 pub fn reach_turn(l: usize, a: usize, b: usize, s: usize) -> NamedOrder
     ensures { named_of result ≡ made (reach_turn l a b s) 0 }

@@ -26,13 +26,16 @@ pub example_run : run_of (plan 3 3) (sealed_sheet three_pools) ≡ three_pools_c
 unfolding sum_to sealed_sheet run_of member lowest others scratch_count work table plan
 example_run = refl
 
--- two pools, line 1 to 2 carries 3; (1,10,−3), (2,30,3): the sale is used up and the line is full, so that both pools have the price of the purchase,
--- pool 1 from the other end of the line
+-- three pools, line 1 to 2 carries 3, the others 0; (1,10,−3), (2,30,3), (3,5,−4): the first sale is used up and the line is full, so that pool 1 has the
+-- price of the purchase from the other end of the line, and nobody that of the sale in pool 3 but this pool
 full_line : Book
-full_line = book 2 2 (pos 1 ∷ pos 10 ∷ neg_ℤ (pos 3) ∷ pos 2 ∷ pos 30 ∷ pos 3 ∷ []) (pos 0 ∷ pos 3 ∷ pos 0 ∷ pos 0 ∷ [])
+full_line =
+    book 3 3 (pos 1 ∷ pos 10 ∷ neg_ℤ (pos 3) ∷ pos 2 ∷ pos 30 ∷ pos 3 ∷ pos 3 ∷ pos 5 ∷ neg_ℤ (pos 4) ∷ [])
+    (pos 0 ∷ pos 3 ∷ pos 0 ∷ pos 0 ∷ pos 0 ∷ pos 0 ∷ pos 0 ∷ pos 0 ∷ pos 0 ∷ [])
 
 prices_run :
-    run_of (plan 2 2) (sealed_sheet full_line)
-    ≡ 1 ∷ 10 ∷ 2147483644 ∷ 2 ∷ 30 ∷ 3 ∷ 0 ∷ 3 ∷ 0 ∷ 0 ∷ 3 ∷ 3 ∷ 0 ∷ 3 ∷ 0 ∷ 0 ∷ 30 ∷ 1 ∷ 30 ∷ 1 ∷ replicate (cell_count - first_scratch 2 2) 0
+    run_of (plan 3 3) (sealed_sheet full_line)
+    ≡ 1 ∷ 10 ∷ 2147483644 ∷ 2 ∷ 30 ∷ 3 ∷ 3 ∷ 5 ∷ 2147483643 ∷ 0 ∷ 3 ∷ 0 ∷ 0 ∷ 0 ∷ 0 ∷ 0 ∷ 0 ∷ 0
+    ∷ 3 ∷ 3 ∷ 0 ∷ 0 ∷ 3 ∷ 0 ∷ 0 ∷ 0 ∷ 0 ∷ 0 ∷ 0 ∷ 0 ∷ 30 ∷ 1 ∷ 30 ∷ 1 ∷ 5 ∷ 1 ∷ replicate (cell_count - first_scratch 3 3) 0
 unfolding full_line sum_to sealed_sheet run_of member lowest others scratch_count work table plan
 prices_run = refl

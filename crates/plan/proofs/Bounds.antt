@@ -1,12 +1,12 @@
 -- Every number that the plan computes of a sound book is below half the modulus, so that nothing wraps: what the theory's bounds of the closed forms give for
 -- the sums and differences that the plan makes of them.
-use Rattle.std.specs.Prelude.{not, ℕ, ◌+◌, ◌*◌, ◌^◌, ◌≤◌, ◌<◌, ltb, eqb}
+use Rattle.std.specs.Prelude.{Bool, not, ℕ, ◌+◌, ◌*◌, ◌^◌, ◌≤◌, ◌<◌, ltb, eqb}
 use Rattle.std.proofs.Common.{mul-le-mul_right, arith}
 use Rattle.definitions.specs.Limits.{pool_limit, price_limit, quantity_limit, greatest_positive}
 use Rattle.definitions.specs.Arithmetic.{on, sum_to}
 use Rattle.definitions.specs.Book.{Book, size}
 use Rattle.laws.specs.Sum.{sum_bound}
-use Rattle.laws.specs.Extremes.{min_le_start, max_below}
+use Rattle.laws.specs.Extremes.{min_le_start, max_to, max_below}
 use Rattle.laws.specs.Tests.{on_le}
 use Rattle.laws.specs.AcceptedBook.{pool_index, Sound}
 use Rattle.theory.specs.ClosedBest.{size_total}
@@ -52,10 +52,14 @@ module _ (B : Book) where
   unfolding margin
   margin_small i = omega (arith, on_le (ltb (used_amount B i) (size B i)) (price_margin B i))
 
+  -- a greatest of such numbers, where tests hold
+  greatest_small : (k : ℕ) (t : ℕ → Bool) (f : ℕ → ℕ) → ((i : ℕ) → f i ≤ 2 * price_limit + 1) → max_to k (λ i. on (t i) (f i)) ≤ 2 * price_limit + 1
+  greatest_small k t f h = max_below k (λ i. on (t i) (f i)) (2 * price_limit + 1) (λ i _. omega (arith, on_le (t i) (f i), h i))
+
   pub pool_margin_small : (p : ℕ) → pool_margin B p ≤ 2 * price_limit + 1
   unfolding pool_margin
-  pool_margin_small p = max_below B.n _ (2 * price_limit + 1) (λ i _. omega (arith, on_le (eqb (pool_index B i) p) (margin B i), margin_small i))
+  pool_margin_small p = greatest_small B.n (λ i. eqb (pool_index B i) p) (margin B) margin_small
 
   pub best_margin_small : (p : ℕ) → best_margin B p ≤ 2 * price_limit + 1
   unfolding best_margin
-  best_margin_small p = max_below B.m _ (2 * price_limit + 1) (λ q _. omega (arith, on_le (reached B q p) (pool_margin B q), pool_margin_small q))
+  best_margin_small p = greatest_small B.m (λ q. reached B q p) (pool_margin B) pool_margin_small

@@ -1,6 +1,6 @@
 -- The plan's length and the limit on it (`plan_length`, `plan_bound`), its order at a position (`plan_has`), and that each of its orders is one of the
 -- machine's and writes no input (`table_placed`, `plan_writes_no_input`).
-use Rattle.std.specs.Prelude.{◌≡◌, refl, ℕ, ◌+◌, ◌*◌, ◌^◌, ◌≤◌, ◌<◌, length}
+use Rattle.std.specs.Prelude.{◌≡◌, refl, [], ◌∷◌, ℕ, ◌+◌, ◌*◌, ◌^◌, ◌≤◌, ◌<◌, length}
 use Rattle.std.proofs.Common.{◌∙◌, mul-le-mul, mul-le-mul_left, pow_mono, arith}
 use Rattle.std.proofs.Math.Nat.{pow-le-pow_left}
 use Rattle.std.proofs.Math.ListN.{length-map}
@@ -61,9 +61,12 @@ module _ (n m : ℕ) where
   unfolding table_size row_size table work sum_to scratch_count
   size_closed = omega arith
 
+  plan_closed : length (plan n m) ≡ n * n * (1 + 2 * m) + n * (28 + 17 * m + 12 * 2 ^ m) + (8 + 13 * m + 9 * (m * m) + 2 ^ m * (9 + 7 * (m * m)))
+  plan_closed = plan_length ∙ size_closed
+
   -- demand 3's limit on the count of orders: with m ≥ 1 its power is at least 64, which is more than each bid needs
   pub plan_bound : 0 < m → m ≤ pool_limit → length (plan n m) ≤ order_limit n m
-  plan_bound p k = rw (plan_length, size_closed) (go (2 ^ m) ((m + 1) ^ 6) (power_small m k) (pow-le-pow_left {n = 2} {m = m + 1} (omega arith) 6))
+  plan_bound p k = rw plan_closed (go (2 ^ m) ((m + 1) ^ 6) (power_small m k) (pow-le-pow_left {n = 2} {m = m + 1} (omega arith) 6))
     where
       go : (sets power : ℕ) → sets ≤ 2 ^ pool_limit → 2 ^ 6 ≤ power
           → n * n * (1 + 2 * m) + n * (28 + 17 * m + 12 * sets) + (8 + 13 * m + 9 * (m * m) + sets * (9 + 7 * (m * m))) ≤ n * (100 * n + 40 * power) + 10000
@@ -128,6 +131,12 @@ module _ (n m : ℕ) where
   pub numbered_writes : n ≤ bid_limit → m ≤ pool_limit → All (WritesWell n m) (cell_orders n m)
   numbered_writes h k =
       all_map (PlacedOrder n m) (WritesWell n m) (renamed (cell_of n m)) placed_writes (flat (table n m)) (each_flat (PlacedOrder n m) (table n m) (table_placed h k))
+
+-- how many orders that is, at the least and the greatest counts and between
+lengths :
+    length (plan 0 1) ∷ length (plan 0 4) ∷ length (plan 8 2) ∷ length (plan 64 1) ∷ length (plan 64 2) ∷ length (plan 64 4) ∷ []
+    ≡ 62 ∷ 2140 ∷ 1418 ∷ 16766 ∷ 27738 ∷ 57436 ∷ []
+lengths = rw (plan_closed 0 1, plan_closed 0 4, plan_closed 8 2, plan_closed 64 1, plan_closed 64 2, plan_closed 64 4) refl
 
 target_is : (o : OrderOn ℕ) → target_of (order_of o) ≡ target o
 target_is (constant d k) = refl

@@ -1,13 +1,15 @@
 -- The phases that fill the slack tests and the reach tests, which read the slacks as they are before the first line.
 use Rattle.std.specs.Prelude.{◌≡◌, Bool, true, false, not, ◌&&◌, ◌||◌, [], ◌∷◌, ℕ, ◌*◌, ◌^◌, ◌/◌, ◌%◌, ◌<◌, ltb}
-use Rattle.std.proofs.Common.{refl, arith, lit<, lit≤}
+use Rattle.std.proofs.Common.{refl, sym, ◌∙◌, arith, lit<, lit≤}
 use Rattle.definitions.specs.Arithmetic.{on}
 use Rattle.definitions.specs.Book.{Book}
 use Rattle.definitions.specs.Machine.{times}
+use Rattle.laws.specs.Tests.{on_le}
 use Rattle.laws.specs.AcceptedBook.{Sound}
+use Rattle.theory.specs.Choices.{on_and}
 use Rattle.theory.proofs.ClosedBest.{slack_small}
 use Rattle.plan.specs.Orders.{run, State}
-use Rattle.plan.specs.Residues.{less_small}
+use Rattle.plan.specs.Residues.{times_on, less_small}
 use Rattle.plan.specs.Loops.{loop, writes_loop, eqb_same}
 use Rattle.plan.proofs.Holds.{Holds, Phase, holds_keep, touches, fill_column}
 use Rattle.plan.specs.Names.{ZeroCells, Units, Slacks, SlackTests, ReachTests, ReachTest}
@@ -19,10 +21,7 @@ use Rattle.plan.specs.Table.{reach_block}
 
 -- two tests as a product
 both_tests : (s t : Bool) → times (on s 1) (on t 1) ≡ on (s && t) 1
-both_tests true true = refl
-both_tests true false = refl
-both_tests false true = refl
-both_tests false false = refl
+both_tests s t = times_on s (on t 1) (omega (arith, on_le t 1)) ∙ sym (on_and s t 1)
 
 module _ (B : Book) (sound : Sound B) where
   pub slack_test_phase : Phase (cell_tables B) (Slacks ∷ ZeroCells ∷ []) SlackTests [] (loop (2 ^ B.m) slack_test_block)

@@ -16,7 +16,7 @@ Block = List (OrderOn Name)
 abbrev pub unit_block : ℕ → Block
 unit_block i = constant (at Units i 0) 1 ∷ []
 
--- the limit of prices and 1: what makes a price positive
+-- the limit of prices and 1
 abbrev pub shift_block : ℕ → Block
 shift_block i = constant (at Shifts i 0) (suc price_limit) ∷ []
 
@@ -178,18 +178,18 @@ slack_test_block S = less (SlackTest S) ZeroCell (Slack S) ∷ []
 abbrev pub reach_start : ℕ → Block
 reach_start l = constant (ReachTest l) 1 ∷ []
 
--- what the test is multiplied by: whether the set that parts the pools has slack, or 1; every turn is one order
+-- what the test is multiplied by: whether the set has slack, or 1; every turn is one order
 abbrev pub reach_cell : Bool → (S : ℕ) → Name
 reach_cell true S = SlackTest S
 reach_cell false S = One
 
--- pool a of line l does not reach its pool b, if set S parts them and has no slack
+-- pool a of line l does not reach its pool b, if set S holds a without b and has no slack
 abbrev pub reach_turn : (l a b S : ℕ) → Block
 reach_turn l a b S = product (ReachTest l) (ReachTest l) (reach_cell (leaves S a b) S) ∷ []
 
 -- ---- the prices
 
--- what the price of bid i leaves to the limit and 1, if the bid is not used up
+-- the limit and 1, less the price of bid i, if the bid is not used up
 abbrev pub margin_block : ℕ → Block
 margin_block i =
     less (Temporary 0) (Used i) (Size i)
@@ -205,7 +205,7 @@ greatest_start d = constant d 0 ∷ []
 abbrev pub greatest_turn : (d test number : Name) → Block
 greatest_turn d test number = product (Temporary 2) test number ∷ raised d (Temporary 2)
 
--- has any pool that reaches pool p a margin? The greatest, taken from the limit and 1, is its price
+-- has any pool that reaches pool p a margin? The limit and 1, less the greatest, is its price
 abbrev pub price_block : ℕ → Block
 price_block p =
     less (Presence p) ZeroCell (BestMargin p)

@@ -224,7 +224,7 @@ SlackTest S = at SlackTests S 0
 abbrev pub ReachTest : ℕ → Name
 ReachTest l = at ReachTests l 0
 
--- what the price of bid i leaves to the limit and 1, 0 if the bid is used up
+-- the limit and 1, less the price of bid i; 0 if the bid is used up
 abbrev pub Margin : ℕ → Name
 Margin i = at Margins i 0
 

@@ -69,7 +69,7 @@ raise_residue (negsuc a) r e h = go (lt? price_limit (suc a)) e
     go (less l) f = let q : ◌≡◌ {A = ℕ} 0 1 = cc in omega arith
     go (more l) f = let q : price_limit - suc a ≡ r = ap nat_abs f in omega arith
 
--- what it leaves to the limit and 1
+-- the limit and 1, less a price
 pub margin_residue : (z : ℤ) (r : ℕ) → z +ℤ pos price_limit ≡ pos r → r ≤ 2 * price_limit → minus (suc price_limit) (residue z) ≡ 2 * suc price_limit - suc r
 margin_residue (pos a) r e h = let q : a + price_limit ≡ r = ap nat_abs e in omega arith
 margin_residue (negsuc a) r e h = omega (arith, raise_residue (negsuc a) r e h)

@@ -20,7 +20,7 @@ pub enum Family {
     ZeroCells,
     // The number 1.
     Units,
-    // What makes a price positive.
+    // The limit of prices and 1.
     Shifts,
     // Each pool's number in a book, from 1.
     PoolNumbers,
@@ -28,7 +28,7 @@ pub enum Family {
     Sides,
     // Each bid's quantity without its sign.
     Sizes,
-    // Each bid's price made positive, so that 0 can stand for none.
+    // Each bid's price made positive.
     PositivePrices,
     // Each positive price doubled.
     Doubles,
@@ -62,9 +62,9 @@ pub enum Family {
     Slacks,
     // Whether a set of pools has slack, as 1 or 0.
     SlackTests,
-    // Whether a pool reaches another, as 1 or 0, by the number of the line between them.
+    // Whether the pool where a line begins reaches the pool where it ends, as 1 or 0.
     ReachTests,
-    // What each bid's price leaves to the limit and 1, 0 for a bid that is used up.
+    // The limit and 1, less each bid's price; 0 for a bid that is used up, since no margin else is.
     Margins,
     // The greatest margin in each pool.
     PoolMargins,

@@ -1,5 +1,5 @@
 -- What settle prints for an accepted book is its best clearing, with permitted flows (`printed_best`). For example 2 these are document 01's
--- six lines (`example_printed`).
+-- six lines, with the prices of request 4 (`example_printed`).
 use Rattle.std.specs.Prelude.{ℕ, ◌≡◌, refl, List, [], ◌∷◌, get_or, pos}
 use Rattle.std.proofs.Common.{ap, ap₂, ◌∙◌}
 use Rattle.definitions.specs.Arithmetic.{join_to}

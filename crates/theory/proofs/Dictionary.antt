@@ -6,8 +6,8 @@ use Rattle.std.proofs.Math.Decide.{dec_lt}
 use Rattle.std.proofs.Math.Arith.{digits_lt}
 use Rattle.definitions.specs.Book.{Book}
 use Rattle.laws.specs.AcceptedBook.{Sound}
-use Rattle.std.proofs.lemmas.Bool.{or_left, or_right}
-use Rattle.theory.specs.Choices.{or_cases, and_both, and_made}
+use Rattle.std.proofs.lemmas.Bool.{or_left, or_right, or_cases}
+use Rattle.theory.specs.Choices.{and_both, and_made}
 use Rattle.theory.specs.StrictOrder.{StrictTotal, FirstDifference, first_difference, not_both_less}
 use Rattle.theory.specs.Network.{SoundNetwork}
 use Rattle.theory.specs.BookNetwork.{network_of, by_lines, by_pools, by_pools_lines, network_sound}

@@ -1,28 +1,30 @@
--- The pool price is the least limit price of the bids that supply the pool (`pool_price_is`). Of a best clearing it does not depend on the flows
+-- The pool price is what the request says, step by step (`pool_price_is`). Of a best clearing it does not depend on the flows
 -- (`price_of_flows`), and the closed forms give its cells (`closed_price_lem`).
 use Rattle.std.specs.Prelude.{◌≡◌, Bool, true, false, cond, ◌&&◌, ltb, ◌⊎◌, ℕ, zero, suc, ◌<◌}
-use Rattle.std.proofs.Common.{refl, sym, ap, ap₂, ◌∙◌, subst, true≢false, inl, inr, arith, eq-or-lt_of_le}
+use Rattle.std.proofs.Common.{refl, sym, ap, ap₂, ◌∙◌, subst, inl, inr, arith, eq-or-lt_of_le, lt-ltb, ltb-true}
 use Rattle.std.proofs.Math.Nat.{suc_inj}
+use Rattle.std.proofs.lemmas.Bool.{false≢true}
 use Rattle.std.specs.Int.Signed.{lt_z, ≤ℤ_refl}
-use Rattle.definitions.specs.Arithmetic.{on}
+use Rattle.definitions.specs.Arithmetic.{on, any_to}
 use Rattle.definitions.specs.Book.{Book, price, size, in_pool}
-use Rattle.definitions.specs.Clearing.{Clearing, Feasible, Best}
+use Rattle.definitions.specs.Clearing.{Clearing, Feasible, Best, used}
 use Rattle.definitions.specs.PoolPrice.{PoolPrice, present, lower_price, least_price, supplies, reaches, pool_price, price_residue, presence}
 use Rattle.definitions.specs.Calls.{AcceptedBook}
-use Rattle.laws.specs.Any.{any_to_one}
+use Rattle.laws.specs.Any.{any_to_some, any_to_made, any_to_one}
 use Rattle.laws.specs.Extremes.{max_to, max_ext, max_of_groups}
 use Rattle.laws.specs.AcceptedBook.{Sound, accepted_sound, pool_index, in_pool_lem}
-use Rattle.theory.specs.Choices.{on_on, on_and}
+use Rattle.theory.specs.Choices.{on_on, on_and, and_both, and_made}
 use Rattle.theory.specs.Integers.{less_le, not_less}
 use Rattle.theory.specs.CutClearing.{best_used_lem}
-use Rattle.theory.specs.ClosedForms.{used_amount, reached, price_margin, margin, pool_margin, best_margin, closed_price, closed_presence, supplied}
-use Rattle.theory.specs.PoolPrice.{LeastPrice, none, some, least_price_ext, least_price_cells}
+use Rattle.theory.specs.ClosedForms.{used_amount, reached, price_margin, margin, pool_margin, best_margin, closed_price, closed_presence}
+use Rattle.theory.specs.PoolPrice.{Supplies, LeastPrice, none, some, supplied, least_price_ext, least_price_cells}
 use Rattle.theory.proofs.ClosedBest.{used_is_cut}
+use Rattle.theory.proofs.Ways.{reaches_says, reaches_made}
 use Rattle.theory.proofs.Reachable.{reaches_closed}
 
 -- ---- the least limit price
 
-module _ (B : Book) (test : ℕ → Bool) where
+module _ (B : Book) (test : ℕ → Bool) (Test : ℕ → Type 0) where
   -- what holds below k and at k holds below k + 1
   all_below : {A : ℕ → Type 0} (k : ℕ) → ((i : ℕ) → i < k → A i) → A k → (i : ℕ) → i < suc k → A i
   all_below {A} k h a i l = go (eq-or-lt_of_le l)
@@ -31,28 +33,50 @@ module _ (B : Book) (test : ℕ → Bool) where
       go (inl e) = subst A (sym (suc_inj e)) a
       go (inr e) = h i (omega arith)
 
-  at_false : (k : ℕ) {A : Type 0} → test k ≡ false → test k ≡ true → A
-  at_false k e f = absurd (true≢false (sym f ∙ e))
-
-  least_next : (k : ℕ) (t : Bool) → test k ≡ t → {x : PoolPrice} → LeastPrice B test k x → LeastPrice B test (suc k) (cond t (lower_price x (price B k)) x)
-  least_next k false e (none h) = none (all_below k h e)
-  least_next k false e (some i l s h) = some i (omega arith) s (all_below k h (λ q. at_false k e q))
-  least_next k true e (none h) = some k (omega arith) e (all_below k (λ j r q. at_false j (h j r) q) (λ q. ≤ℤ_refl (price B k)))
-  least_next k true e (some i l s h) = go (lt_z (price B k) (price B i)) refl
+  -- bid k passes the test or not
+  least_at : (k : ℕ) (t : Bool) → (t ≡ true → Test k) → (Test k → t ≡ true) → {x : PoolPrice} → LeastPrice B Test k x → LeastPrice B Test (suc k) (cond t (lower_price x (price B k)) x)
+  least_at k false f g (none h) = none (all_below k h (λ a. false≢true (g a)))
+  least_at k false f g (some i l s h) = some i (omega arith) s (all_below k h (λ a. absurd (false≢true (g a))))
+  least_at k true f g (none h) = some k (omega arith) (f refl) (all_below k (λ j r a. absurd (h j r a)) (λ a. ≤ℤ_refl (price B k)))
+  least_at k true f g (some i l s h) = go (lt_z (price B k) (price B i)) refl
     where
-      go : (t : Bool) → lt_z (price B k) (price B i) ≡ t → LeastPrice B test (suc k) (present (cond t (price B k) (price B i)))
-      go true q = some k (omega arith) e (all_below k (λ j r f. less_le (price B k) (price B i) (price B j) q (h j r f)) (λ f. ≤ℤ_refl (price B k)))
-      go false q = some i (omega arith) s (all_below k h (λ f. not_less (price B k) (price B i) q))
+      go : (t : Bool) → lt_z (price B k) (price B i) ≡ t → LeastPrice B Test (suc k) (present (cond t (price B k) (price B i)))
+      go true q = some k (omega arith) (f refl) (all_below k (λ j r a. less_le (price B k) (price B i) (price B j) q (h j r a)) (λ a. ≤ℤ_refl (price B k)))
+      go false q = some i (omega arith) s (all_below k h (λ a. not_less (price B k) (price B i) q))
 
-  least_upto : (k : ℕ) → LeastPrice B test k (least_price B test k)
+  -- what is computed of a test is the least of the bids that pass it
+  least_upto : (k : ℕ) → ((i : ℕ) → i < k → test i ≡ true → Test i) → ((i : ℕ) → i < k → Test i → test i ≡ true) → LeastPrice B Test k (least_price B test k)
   unfolding least_price
-  least_upto zero = none (λ i l. absurd (omega arith))
-  least_upto (suc k) = least_next k (test k) refl (least_upto k)
+  least_upto zero f g = none (λ i l. absurd (omega arith))
+  least_upto (suc k) f g = least_at k (test k) (f k (omega arith)) (g k (omega arith)) (least_upto k (λ i l. f i (omega arith)) (λ i l. g i (omega arith)))
 
--- "the least limit price among bids with used amount below their size, in a pool from which the pool in question can be reached"
-pub pool_price_is : (B : Book) (c : Clearing) (p : ℕ) → LeastPrice B (supplies B c p) B.n (pool_price B c p)
-unfolding pool_price
-pool_price_is B c p = least_upto B (supplies B c p) B.n
+-- ---- the request's words
+
+module _ (B : Book) (c : Clearing) (p : ℕ) (r : p < B.m) where
+  supplies_says : (i : ℕ) → supplies B c p i ≡ true → Supplies B c p i
+  supplies_says i e =
+      let both = and_both (ltb (used B c.accepted i) (size B i)) (any_to B.m (λ q. in_pool B q i && reaches B c.flow q p)) e in
+      let some-pool = any_to_some B.m (λ q. in_pool B q i && reaches B c.flow q p) both.1 in
+      let there = and_both (in_pool B some-pool.0 i) (reaches B c.flow some-pool.0 p) some-pool.2 in
+      record {
+        below_size = ltb-true (used B c.accepted i) (size B i) both.0;
+        from = some-pool.0;
+        from_below = some-pool.1;
+        in_from = there.0;
+        reached_from = reaches_says B c.flow some-pool.0 p some-pool.1 r there.1;
+      }
+
+  supplies_made : (i : ℕ) → Supplies B c p i → supplies B c p i ≡ true
+  supplies_made i s =
+      and_made (ltb (used B c.accepted i) (size B i)) (any_to B.m (λ q. in_pool B q i && reaches B c.flow q p)) (lt-ltb (used B c.accepted i) (size B i) s.below_size)
+      (any_to_made B.m (λ q. in_pool B q i && reaches B c.flow q p) s.from s.from_below
+      (and_made (in_pool B s.from i) (reaches B c.flow s.from p) s.in_from (reaches_made B c.flow s.reached_from)))
+
+  -- "the least limit price among bids with used amount below their size, in a pool from which the pool in question can be reached .. With no such bid
+  -- the price is missing": of any clearing of any book
+  pub pool_price_is : LeastPrice B (Supplies B c p) B.n (pool_price B c p)
+  unfolding pool_price
+  pool_price_is = least_upto B (supplies B c p) (Supplies B c p) B.n (λ i _. supplies_says i) (λ i _. supplies_made i)
 
 -- ---- of a best clearing
 

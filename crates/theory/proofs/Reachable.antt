@@ -3,7 +3,7 @@
 use Rattle.std.specs.Prelude.{◌≡◌, Bool, true, false, not, ◌&&◌, ◌||◌, ◌⊎◌, ltb, ℕ, ◌+◌, ◌*◌, ◌-◌, ◌<◌, ◌/◌, ◌%◌, ◌^◌}
 use Rattle.std.proofs.Common.{refl, sym, ◌∙◌, subst, inl, inr, arith, lt-ltb, ltb-true}
 use Rattle.std.proofs.Math.Arith.{digits_div, digits_mod, digits_lt}
-use Rattle.std.proofs.lemmas.Bool.{or_left, or_right}
+use Rattle.std.proofs.lemmas.Bool.{or_left, or_right, or_cases}
 use Rattle.std.specs.Cmp.{both_ways}
 use Rattle.definitions.specs.Arithmetic.{all_to}
 use Rattle.definitions.specs.Book.{Book, capacity}
@@ -20,7 +20,6 @@ use Rattle.theory.specs.Slacks as slacks
 use Rattle.theory.specs.Slacks.{amount_in_ext}
 use Rattle.theory.specs.Welfare.{turn, clearing_feasible}
 use Rattle.theory.specs.Reach.{Reach, here, along, back, reach_slack, slack_reach}
-use Rattle.theory.specs.Choices.{or_cases}
 use Rattle.theory.specs.BookNetwork.{network_of, by_lines, used_is, network_sound, feasible_network}
 use Rattle.theory.specs.CutClearing.{cut_used, best_used_lem}
 use Rattle.theory.specs.ClosedForms.{slack, slack_after, unparted, reached}

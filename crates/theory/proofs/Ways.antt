@@ -2,10 +2,10 @@
 use Rattle.std.specs.Prelude.{◌≡◌, refl, Bool, true, ◌&&◌, ◌||◌, ◌⊎◌, ℕ, zero, suc, ◌≤◌, ◌<◌, eqb}
 use Rattle.std.proofs.Common.{sym, ap, ◌∙◌, subst, inl, inr, arith, eq-or-lt_of_le, eqb-true, eq-eqb}
 use Rattle.std.proofs.Math.Nat.{suc_inj}
-use Rattle.std.proofs.lemmas.Bool.{or_left, or_right}
+use Rattle.std.proofs.lemmas.Bool.{or_left, or_right, or_cases}
 use Rattle.definitions.specs.Book.{Book}
 use Rattle.definitions.specs.PoolPrice.{one_step, reaches_over, reaches}
-use Rattle.theory.specs.Choices.{or_cases, and_both, and_made}
+use Rattle.theory.specs.Choices.{and_both, and_made}
 use Rattle.theory.specs.Reachable.{Reaches, itself, step}
 
 module _ (B : Book) (f : ℕ → ℕ → ℕ) where

@@ -1,5 +1,5 @@
 -- A value where a test holds, else 0: laws of `on`, and of tests by themselves.
-use Rattle.std.specs.Prelude.{◌≡◌, refl, Bool, true, false, not, ◌&&◌, ◌||◌, ◌⊎◌, ℕ, zero, suc, ◌+◌, ◌≤◌, ◌<◌}
+use Rattle.std.specs.Prelude.{◌≡◌, refl, Bool, true, false, not, ◌&&◌, ◌⊎◌, ℕ, zero, suc, ◌+◌, ◌≤◌, ◌<◌}
 use Rattle.std.proofs.Common.{sym, ap, ◌∙◌, true≢false, inl, inr, eq-or-lt_of_le, arith}
 use Rattle.std.proofs.Math.Nat.{suc_inj}
 use Rattle.definitions.specs.Arithmetic.{on, sum_to}
@@ -32,10 +32,6 @@ on_sum false n f = sym (sum_zero n)
 pub on_not : (t : Bool) (v : ℕ) → on t v + on (not t) v ≡ v
 on_not true v = omega arith
 on_not false v = omega arith
-
-pub or_cases : (s t : Bool) → (s || t) ≡ true → (s ≡ true) ⊎ (t ≡ true)
-or_cases true t e = inl refl
-or_cases false t e = inr e
 
 pub and_both : (s t : Bool) → (s && t) ≡ true → (s ≡ true) × (t ≡ true)
 and_both true t e = (refl, e)

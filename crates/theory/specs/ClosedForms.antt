@@ -19,7 +19,7 @@ unfoldable pub subset_sum : (m : ℕ) (x : ℕ → ℕ) (S : ℕ) → ℕ
 subset_sum m x S = sum_to m (λ p. on (member S p) (x p))
 
 module _ (B : Book) where
-  -- a price made positive, so that 0 can stand for none
+  -- a price made positive
   abbrev pub positive_price : ℕ → ℕ
   positive_price i = suc (raised_price B i)
 
@@ -100,15 +100,15 @@ module _ (B : Book) where
   abbrev pub closed_clearing : Clearing
   closed_clearing = record { accepted = λ i. accepted_amount i; flow = λ a b. line_flow (a * B.m + b) }
 
-  -- set S does not part pool q from pool p, or it has slack
+  -- set S does not hold q without p, or it has slack
   abbrev pub unparted : (q p S : ℕ) → Bool
   unparted q p S = not (leaves S q p) || ltb 0 (slack S)
 
-  -- pool q reaches pool p: no set without slack parts them
+  -- pool q reaches pool p: no set without slack holds q without p
   unfoldable pub reached : (q p : ℕ) → Bool
   reached q p = all_to (2 ^ B.m) (unparted q p)
 
-  -- what the price of bid i leaves to the limit and 1: the less it asks, the more; never 0
+  -- the limit and 1, less the price of bid i: the greater the lower the price, and never 0
   abbrev pub price_margin : ℕ → ℕ
   price_margin i = 2 * suc price_limit - positive_price i
 
@@ -131,7 +131,3 @@ module _ (B : Book) where
   -- its presence cell
   abbrev pub closed_presence : ℕ → ℕ
   closed_presence p = on (ltb 0 (best_margin p)) 1
-
-  -- bid i supplies pool p
-  unfoldable pub supplied : (p i : ℕ) → Bool
-  supplied p i = ltb (used_amount i) (size B i) && reached (pool_index B i) p

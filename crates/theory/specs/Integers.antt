@@ -100,14 +100,17 @@ RaisedBy c z h = positive_part z + c ≡ h + negative_part z
 pub raised_by : (c : ℕ) (z : ℤ) (h : ℕ) → z +ℤ pos c ≡ pos h → RaisedBy c z h
 raised_by c z h e = omega (arith, add_read z (pos c), ap positive_part e, ap negative_part e)
 
+-- the test of two numbers is that of two others that lie as far apart
+less_read : (x y : ℤ) (h k : ℕ) → positive_part x + negative_part y + k ≡ h + (positive_part y + negative_part x) → lt_z x y ≡ ltb h k
+less_read x y h k e =
+    lt_read x y ∙ same_less (positive_part x + negative_part y) (positive_part y + negative_part x) h k e (lt? (positive_part x + negative_part y) (positive_part y + negative_part x)) (lt? h k)
+
 pub raised_less : (c : ℕ) (x y : ℤ) (h k : ℕ) → RaisedBy c x h → RaisedBy c y k → lt_z x y ≡ ltb h k
-raised_less c x y h k e f =
-    lt_read x y ∙ same_less (positive_part x + negative_part y) (positive_part y + negative_part x) h k (omega arith) (lt? (positive_part x + negative_part y) (positive_part y + negative_part x)) (lt? h k)
+raised_less c x y h k e f = less_read x y h k (omega arith)
 
 -- two numbers that h and k raise to c: the lesser is raised by more
 pub raised_by_less : (c : ℕ) (x y : ℤ) (h k : ℕ) → RaisedBy h x c → RaisedBy k y c → lt_z x y ≡ ltb k h
-raised_by_less c x y h k e f =
-    lt_read x y ∙ same_less (positive_part x + negative_part y) (positive_part y + negative_part x) k h (omega arith) (lt? (positive_part x + negative_part y) (positive_part y + negative_part x)) (lt? k h)
+raised_by_less c x y h k e f = less_read x y k h (omega arith)
 
 pub raised_le : (c : ℕ) (x y : ℤ) (h k : ℕ) → RaisedBy c x h → RaisedBy c y k → x ≤ℤ y → h ≤ k
 raised_le c x y h k e f l = omega (arith, read_le x y l)

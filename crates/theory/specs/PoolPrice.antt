@@ -1,23 +1,38 @@
--- The least limit price of the bids that pass a test (`LeastPrice`), and how a plan computes it: as a greatest of what the prices leave to the limit and 1.
-use Rattle.std.specs.Prelude.{◌≡◌, Bool, true, false, cond, ltb, ℤ, pos, negsuc, ◌≤ℤ◌, refl, ℕ, zero, suc, ◌*◌, ◌+◌, ◌≤◌, ◌<◌, max}
+-- What a pool price is, in the request's words (`LeastPrice` of the bids that `Supplies` says), and how a plan computes it: as the greatest of the limit and 1,
+-- less each price.
+use Rattle.std.specs.Prelude.{◌≡◌, Bool, true, false, cond, ◌&&◌, ltb, ℤ, pos, negsuc, ◌≤ℤ◌, refl, ℕ, zero, suc, ◌*◌, ◌+◌, ◌≤◌, ◌<◌, max}
 use Rattle.std.proofs.Common.{ap₂, arith, lt-ltb}
 use Rattle.std.specs.Int.Signed.{lt_z}
 use Rattle.definitions.specs.Limits.{price_limit}
 use Rattle.definitions.specs.Arithmetic.{on, residue}
-use Rattle.definitions.specs.Book.{Book, price}
+use Rattle.definitions.specs.Book.{Book, price, size, in_pool}
+use Rattle.definitions.specs.Clearing.{Clearing, used}
 use Rattle.definitions.specs.Machine.{minus}
 use Rattle.definitions.specs.PoolPrice.{PoolPrice, missing, present, lower_price, least_price, price_residue, presence}
 use Rattle.laws.specs.Tests.{Lt?, less, more, lt?}
 use Rattle.laws.specs.Extremes.{max_to}
-use Rattle.laws.specs.AcceptedBook.{Sound}
+use Rattle.laws.specs.AcceptedBook.{Sound, pool_index}
 use Rattle.theory.specs.Integers.{RaisedBy, raised_by_less}
 use Rattle.theory.specs.BookNetwork.{price_raised}
-use Rattle.theory.specs.ClosedForms.{price_margin}
+use Rattle.theory.specs.ClosedForms.{used_amount, reached, price_margin}
+use Rattle.theory.specs.Reachable.{Reaches}
+
+-- Bid i is among the "bids with used amount below their size, in a pool from which the pool in question can be reached", step by step.
+pub record Supplies (B : Book) (c : Clearing) (p i : ℕ) : Type 0 where
+  pub below_size : used B c.accepted i < size B i
+  pub from : ℕ
+  pub from_below : from < B.m
+  pub in_from : in_pool B from i ≡ true
+  pub reached_from : Reaches B c.flow from p
 
 -- Among the first k bids: none passes the test, or bid i does and none that does has a lower price.
-pub data LeastPrice (B : Book) (test : ℕ → Bool) (k : ℕ) : PoolPrice → Type 0 where
-  none : ((i : ℕ) → i < k → test i ≡ false) → LeastPrice B test k missing
-  some : (i : ℕ) → i < k → test i ≡ true → ((j : ℕ) → j < k → test j ≡ true → price B i ≤ℤ price B j) → LeastPrice B test k (present (price B i))
+pub data LeastPrice (B : Book) (Test : ℕ → Type 0) (k : ℕ) : PoolPrice → Type 0 where
+  none : ((i : ℕ) → i < k → Test i → ⊥) → LeastPrice B Test k missing
+  some : (i : ℕ) → i < k → Test i → ((j : ℕ) → j < k → Test j → price B i ≤ℤ price B j) → LeastPrice B Test k (present (price B i))
+
+-- bid i supplies pool p, by closed forms
+unfoldable pub supplied : Book → (p i : ℕ) → Bool
+supplied B p i = ltb (used_amount B i) (size B i) && reached B (pool_index B i) p
 
 -- only the tests count
 pub least_price_ext : (B : Book) (s t : ℕ → Bool) (k : ℕ) → ((i : ℕ) → i < k → s i ≡ t i) → least_price B s k ≡ least_price B t k
@@ -28,7 +43,7 @@ least_price_ext B s t (suc k) e =
 
 -- ---- as a greatest
 
--- h is what a price leaves to the limit and 1, 0 for a missing price
+-- h is the limit and 1, less the price; 0 for a missing price
 abbrev IsMargin : PoolPrice → ℕ → Type 0
 IsMargin missing h = h ≡ 0
 IsMargin (present z) h = RaisedBy h z (suc price_limit) × (0 < h) × (h ≤ 2 * price_limit + 1)

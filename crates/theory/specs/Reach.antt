@@ -7,8 +7,8 @@ use Rattle.laws.specs.Sum.{sum_le, sum_zero, sum_le_at}
 use Rattle.laws.specs.Tests.{Lt?, less, more, lt?}
 use Rattle.theory.specs.Network.{goes_out, comes_in, Network, SoundNetwork, leaving, entering, cut, amount_in, ◌adding◌}
 use Rattle.theory.specs.Balance.{only, FeasibleUse, cut_balance}
-use Rattle.std.proofs.lemmas.Bool.{true_from_ne_false, or_left}
-use Rattle.theory.specs.Choices.{search, on_monotone, or_cases, and_both}
+use Rattle.std.proofs.lemmas.Bool.{true_from_ne_false, or_left, or_cases}
+use Rattle.theory.specs.Choices.{search, on_monotone, and_both}
 
 -- pool q reaches another: itself, along a line that is not full, back along one that carries something
 pub data Reach (N : Network) (f : ℕ → ℕ) (q : ℕ) : ℕ → Type 0 where
