@@ -47,6 +47,10 @@ PRICED = [
     (2, {(1, 2): 4}, [(1, 25, -5), (2, 25, -5), (2, 25, 5)], {"accepted": [4, 1, 5], "prices": [25, 25]}),
     # nothing is left of the cheaper bids: a withdrawn one, a sale accepted in full, a purchase not accepted
     (1, {}, [(1, -5, 0), (1, 5, -6), (1, 10, 4), (1, 20, -9), (1, 30, 8)], {"accepted": [0, 6, 0, 2, 8], "prices": [20]}),
+    # the least and the greatest price, and 0, which is a price
+    (1, {}, [(1, -30_000, -1)], {"accepted": [0], "prices": [-30_000]}),
+    (2, {(1, 2): 1}, [(1, 30_000, -1), (2, -30_000, 1)], {"accepted": [0, 0], "prices": [30_000, 30_000]}),
+    (2, {(1, 2): 1}, [(1, 0, -2), (2, 30_000, 1)], {"accepted": [1, 1], "prices": [0, 30_000]}),
     # a withdrawn bid alone
     (2, {(1, 2): 1, (2, 1): 1}, [(1, 20, 0)], {"accepted": [0], "prices": [None, None]}),
 ]
@@ -162,12 +166,13 @@ def one_more(n, m, bids, capacities, most, p):
 
 
 def small(draw):
-    """Few bids, small numbers; the prices of the two sides apart in some books; at most six lines."""
+    """Few bids, small numbers; the prices of the two sides apart in some books, a few at their limits; at most six lines."""
     m, n, apart = draw.choice([1, 2, 3, 3, 4]), draw.randint(0, 6), draw.randint(0, 2)
     bids = []
     for _ in range(n):
         quantity = draw.randint(-3, 3)
-        bids.append((draw.randint(1, m), draw.randint(-2, 2) + (apart if quantity > 0 else -apart), quantity))
+        price = draw.randint(-2, 2) + (apart if quantity > 0 else -apart)
+        bids.append((draw.randint(1, m), draw.choice([-solver.PRICE, solver.PRICE]) if draw.random() < 0.05 else price, quantity))
     capacities = [[0] * m for _ in range(m)]
     pairs = [(a, b) for a in range(m) for b in range(m) if a != b]
     for a, b in draw.sample(pairs, min(len(pairs), draw.randint(0, 6))):

@@ -104,7 +104,7 @@ by_flows : (s : List ℕ) → Outcome book_two s → cell s (amount_cell 2 2 0) 
     → cell s (flow_cell 2 2 0 1) ≡ 3 → cell s (flow_cell 2 2 1 0) ≡ 0
     → (cell s (price_cell 2 2 1) ≡ 30) × (cell s (presence_cell 2 2 1) ≡ 1)
 unfolding book_two pool_price least_price any_to used reaches reaches_over
-by_flows s h e f g k = (rw (e, f, g, k) at (h.prices 1 (omega arith)), rw (e, f, g, k) at (h.presences 1 (omega arith)))
+by_flows s h e f g k = (simp (e, f, g, k) at (h.prices 1 (omega arith)), simp (e, f, g, k) at (h.presences 1 (omega arith)))
 
 -- a price below 0 stands in its cell as its residue: nothing is accepted, and the sale can be had
 negative_price : (s : List ℕ) → Outcome book_five s → cell s (amount_cell 2 1 0) ≡ 0 → cell s (amount_cell 2 1 1) ≡ 0

@@ -37,6 +37,8 @@ pub fn show_all(rt: &impl Print) -> io::Result<()> {
             ("negative prices:", "2 1 1 -20 -4 1 -10 4 0"),
             ("greatest and least:", "2 1 1 -30000 -65535 1 30000 65535 0"),
             ("dear sale alone:", "1 1 1 30000 -65535 0"),
+            ("cheap sale alone:", "1 1 1 -30000 -65535 0"),
+            ("sale at 0 alone:", "1 1 1 0 -1 0"),
             // What is refused, and by which number.
             ("price too high:", "1 1 1 30001 5 0"),
             ("quantity too low:", "1 1 1 30000 -65536 0"),
