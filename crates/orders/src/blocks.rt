@@ -8,7 +8,9 @@ ghost use Rattle.plan.specs.Running.{subset_block};
 ghost use Rattle.plan.specs.Blocks.{size_block, cut_turn, test_order, cost_turn, amount_block, reach_turn, rest_turn, take_turn, margin_block, greatest_turn, price_block};
 ghost use Rattle.orders.specs.Named.{name_of, named_of, made, moved};
 
-use crate::names::{Name, NamedOrder, PRICE, QUANTITY, cell, difference, first, less, own, product, sum};
+use crate::names::{
+    Name, NamedOrder, PRICE, QUANTITY, cell, difference, first, less, own, product, sum,
+};
 use crate::sets::{is_leaving, other_pools, subset_count};
 use definitions::Counts;
 use plan::Family::*;
