@@ -1,4 +1,5 @@
--- One pool reaches another, along lines that are not full or back along lines that carry something, exactly if no set without slack parts them.
+-- One pool reaches another, along lines that are not full or back along lines that carry something, exactly if no set without slack holds the one without
+-- the other.
 use Rattle.std.specs.Prelude.{◌≡◌, refl, Bool, not, ◌&&◌, ◌||◌, ◌⊎◌, ℕ, zero, suc, ◌-◌, ◌≤◌, ◌<◌, eqb, ltb, true, false}
 use Rattle.std.proofs.Common.{sym, ◌∙◌, subst, true≢false, inl, inr, arith, ltb-true, eqb-true, eq-eqb}
 use Rattle.std.proofs.Math.Decide.{dec_lt}
