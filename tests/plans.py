@@ -1,5 +1,6 @@
 """Runs the unit's own plans on the machine written apart, and holds what they leave to the solver, and README's table of orders to their lengths:
-python3 tests/plans.py DUMP [PLANS] [SEED], DUMP being the program of tests/dump.c. The stored books of tests/exhaustive.py are among those run."""
+python3 tests/plans.py DUMP [PLANS] [SEED], DUMP being the program of tests/dump.c. The stored books of tests/exhaustive.py are among those run. The
+prices are also taken by the words of request 4 of document 02 from the flows that a plan leaves."""
 import pathlib
 import subprocess
 

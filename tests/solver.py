@@ -103,7 +103,7 @@ def used_amounts(n, m, bids, capacities):
 
 def reaching(m, rest, p):
     """The pools from which pool p can be reached, itself included, found from p backwards. From a to b more could be brought exactly where line a to b is
-    not full or line b to a carries something, which could be sent less: where a residual capacity is left."""
+    not full or line b to a carries something, since less can be sent along it: where a residual capacity is left."""
     found, queue = {p}, deque([p])
     while queue:
         b = queue.popleft()

@@ -1,3 +1,3 @@
--- Laws that the proofs cite.
+-- Laws that the proofs cite, and demand 3.
 pub mod Sealing
 pub mod Demand3

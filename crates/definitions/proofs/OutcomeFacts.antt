@@ -93,7 +93,7 @@ no_price : (s : List ℕ) → Outcome book_seven s → (cell s (price_cell 0 2 1
 unfolding book_seven pool_price least_price
 no_price s h = (h.prices 1 (omega arith), h.presences 1 (omega arith))
 
--- a pool has the price of the sale that is not used up
+-- a pool has the lower of two prices, that of the sale, of which 4 are left, and that of the purchase
 a_price : (s : List ℕ) → Outcome book_one s → cell s (amount_cell 2 1 0) ≡ 6 → cell s (amount_cell 2 1 1) ≡ 6
     → (cell s (price_cell 2 1 0) ≡ 20) × (cell s (presence_cell 2 1 0) ≡ 1)
 unfolding book_one pool_price least_price any_to used reaches reaches_over

@@ -7,7 +7,7 @@ use Rattle.definitions.specs.Clearing.{Clearing, used}
 use Rattle.definitions.specs.PoolPrice.{one_step, reaches_over, reaches, least_price, missing, present, pool_price}
 use Rattle.definitions.proofs.ClearingFacts.{listed, merit}
 
--- ---- one step: a line full to its last unit, one of capacity 0, and back along a line that carries something
+-- ---- one step: along a line that lacks one unit, a full one, one of capacity 0, and back along a line that carries something
 
 -- two pools, a line each way that carries 7
 both_lines : Book
@@ -28,7 +28,6 @@ steps = refl
 -- ---- ways
 
 -- four pools, lines 1 to 4, 4 to 3 and 3 to 2 of capacity 4
-
 row : Book
 row =
     book 0 4 []
@@ -38,8 +37,8 @@ row =
 abbrev carried : ℕ → ℕ → ℕ → ℕ
 carried k = (listed 4 [] (0 ∷ 0 ∷ 0 ∷ 0 ∷ 0 ∷ 0 ∷ 0 ∷ 0 ∷ 0 ∷ k ∷ 0 ∷ 0 ∷ 0 ∷ 0 ∷ 0 ∷ 0 ∷ [])).flow
 
--- pool 1 reaches pool 2 in three steps while the last line is not full, and pool 3 whether it is or not; pool 2 reaches pool 3 while the line carries
--- something; pool 1 reaches itself, and none of the others reaches it
+-- pool 1 reaches pool 2 in three steps while the last line is not full, and pool 3 even then; pool 2 reaches pool 3 while the line carries something;
+-- pool 1 reaches itself, and none of the others reaches it
 ways :
     reaches row (carried 3) 0 1 ∷ reaches row (carried 4) 0 1 ∷ reaches row (carried 4) 0 2
     ∷ reaches row (carried 4) 1 2 ∷ reaches row (carried 0) 1 2
@@ -91,8 +90,8 @@ unfolding book_two pool_price least_price any_to used reaches reaches_over
 stated_prices = refl
 
 -- lines 1 to 2, 2 to 4, 1 to 3 and 3 to 4 carry 4; (1,10,−4), (2,20,−5), (4,30,8). 4 are sent by pool 3, 4 from pool 2: line 1 to 2 is open, 2 to 4 is full
-three_ways : Book
-three_ways =
+two_ways : Book
+two_ways =
     book 3 4 (pos 1 ∷ pos 10 ∷ neg_ℤ (pos 4) ∷ pos 2 ∷ pos 20 ∷ neg_ℤ (pos 5) ∷ pos 4 ∷ pos 30 ∷ pos 8 ∷ [])
     (pos 0 ∷ pos 4 ∷ pos 4 ∷ pos 0 ∷ pos 0 ∷ pos 0 ∷ pos 0 ∷ pos 4 ∷ pos 0 ∷ pos 0 ∷ pos 0 ∷ pos 4 ∷ pos 0 ∷ pos 0 ∷ pos 0 ∷ pos 0 ∷ [])
 
@@ -100,9 +99,9 @@ abbrev sent : Clearing
 sent = listed 4 (4 ∷ 4 ∷ 8 ∷ []) (0 ∷ 0 ∷ 4 ∷ 0 ∷ 0 ∷ 0 ∷ 0 ∷ 4 ∷ 0 ∷ 0 ∷ 0 ∷ 4 ∷ 0 ∷ 0 ∷ 0 ∷ 0 ∷ [])
 
 sent_prices :
-    pool_price three_ways sent 0 ∷ pool_price three_ways sent 1 ∷ pool_price three_ways sent 2 ∷ pool_price three_ways sent 3 ∷ []
+    pool_price two_ways sent 0 ∷ pool_price two_ways sent 1 ∷ pool_price two_ways sent 2 ∷ pool_price two_ways sent 3 ∷ []
     ≡ present (pos 30) ∷ present (pos 20) ∷ present (pos 30) ∷ present (pos 30) ∷ []
-unfolding three_ways pool_price least_price any_to used reaches reaches_over
+unfolding two_ways pool_price least_price any_to used reaches reaches_over
 sent_prices = refl
 
 -- a sale in pool 2, which line 2 to 3 can take to pool 3 and no line to pool 1

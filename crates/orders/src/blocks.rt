@@ -117,6 +117,17 @@ pub fn test_order(i: usize, j: usize) -> NamedOrder
     less(own(0), first(ZeroCells, 0), first(ZeroCells, 0))
 }
 
+// Line a to b's part of the cut of s.
+#[tactic(auto, using(crate::specs::Named::cut_chosen))]
+pub fn cut_turn(s: usize, a: usize, b: usize) -> NamedOrder
+    ensures { named_of result ≡ made (cut_turn s a b) 0 }
+{
+    if is_leaving(s, a, b) {
+        return sum(first(Cuts, s), first(Cuts, s), cell(Capacities, a, b));
+    }
+    sum(first(Cuts, s), first(Cuts, s), first(ZeroCells, 0))
+}
+
 // Whether pool a of line l reaches its pool b, by the set s: if s holds a without b it must have slack.
 #[tactic(auto, using(crate::specs::Named::reach_chosen))]
 pub fn reach_turn(l: usize, a: usize, b: usize, s: usize) -> NamedOrder
@@ -127,17 +138,6 @@ pub fn reach_turn(l: usize, a: usize, b: usize, s: usize) -> NamedOrder
         return product(test, test, first(SlackTests, s));
     }
     product(test, test, first(Units, 0))
-}
-
-// Line a to b's part of the cut of s.
-#[tactic(auto, using(crate::specs::Named::cut_chosen))]
-pub fn cut_turn(s: usize, a: usize, b: usize) -> NamedOrder
-    ensures { named_of result ≡ made (cut_turn s a b) 0 }
-{
-    if is_leaving(s, a, b) {
-        return sum(first(Cuts, s), first(Cuts, s), cell(Capacities, a, b));
-    }
-    sum(first(Cuts, s), first(Cuts, s), first(ZeroCells, 0))
 }
 
 // One step of a least, in the third temporary: what line a to b leaves unused is at most the slack of s, if the line leaves s.

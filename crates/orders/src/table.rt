@@ -171,8 +171,8 @@ fn slacks(counts: Counts, s: Spot) -> NamedOrder
     difference(first(Slacks, set), first(Cuts, set), first(Subsets, set))
 }
 
-// An order of whether the pool where a line begins reaches the pool where it ends.
-fn reaching(counts: Counts, s: Spot) -> NamedOrder
+// An order of the test whether the pool where a line begins reaches the pool where it ends.
+fn reach_tests(counts: Counts, s: Spot) -> NamedOrder
     requires { InPhase (reach_phase counts.n counts.m) s }
     ensures { named_of result ≡ order_in (reach_phase counts.n counts.m) s }
 {
@@ -293,7 +293,7 @@ pub fn order_of(counts: Counts, k: usize, s: Spot) -> NamedOrder
             first(ZeroCells, 0),
             first(Slacks, s.column),
         ),
-        22 => reaching(counts, s),
+        22 => reach_tests(counts, s),
         23 => lines(counts, s),
         24 => margin_order(i, s.turn),
         25 => pool_margins(counts, s),

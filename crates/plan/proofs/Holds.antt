@@ -120,7 +120,7 @@ touches u i ws c = among ws c || (eqb (number u) (number (family c)) && eqb i (r
 abbrev pub touches_cell : Family → ℕ → ℕ → List Family → Name → Bool
 touches_cell u i j ws c = among ws c || same (at u i j) c
 
-touches_family : (u : Family) (ws : List Family) (i : ℕ) (l : List (OrderOn Name)) → writes (touches u i ws) l ≡ true → writes (among (u ∷ ws)) l ≡ true
+pub touches_family : (u : Family) (ws : List Family) (i : ℕ) (l : List (OrderOn Name)) → writes (touches u i ws) l ≡ true → writes (among (u ∷ ws)) l ≡ true
 touches_family u ws i l h = writes_more (touches u i ws) (among (u ∷ ws)) (λ c. go (among ws c) (eqb (number u) (number (family c))) (eqb i (row c))) l h
   where
     go : (x y z : Bool) → x || (y && z) ≡ true → y || x ≡ true

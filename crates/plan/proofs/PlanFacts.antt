@@ -1,4 +1,4 @@
--- The plan's length and the limit on it (`plan_length`, `plan_bound`), its order at a position (`plan_has`), and that each of its orders is one of the
+-- The plan's length and the limit on it (`plan_length`, `plan_bound`; `lengths` at some counts), its order at a position (`plan_has`), and that each of its orders is one of the
 -- machine's and writes no input (`table_placed`, `plan_writes_no_input`).
 use Rattle.std.specs.Prelude.{◌≡◌, refl, [], ◌∷◌, ℕ, ◌+◌, ◌*◌, ◌^◌, ◌≤◌, ◌<◌, length}
 use Rattle.std.proofs.Common.{◌∙◌, mul-le-mul, mul-le-mul_left, pow_mono, arith}
@@ -56,20 +56,19 @@ module _ (n m : ℕ) where
   unfolding plan
   plan_length = length-map (cell_orders n m) order_of ∙ length-map (flat (table n m)) (renamed (cell_of n m)) ∙ flat_length (table n m)
 
-  -- in closed form
-  size_closed : table_size (table n m) ≡ n * n * (1 + 2 * m) + n * (28 + 17 * m + 12 * 2 ^ m) + (8 + 13 * m + 9 * (m * m) + 2 ^ m * (9 + 7 * (m * m)))
-  unfolding table_size row_size table work sum_to scratch_count
-  size_closed = omega arith
+  -- in closed form, with so many sets of pools
+  abbrev closed_length : ℕ → ℕ
+  closed_length sets = n * n * (1 + 2 * m) + n * (28 + 17 * m + 12 * sets) + (8 + 13 * m + 9 * (m * m) + sets * (9 + 7 * (m * m)))
 
-  plan_closed : length (plan n m) ≡ n * n * (1 + 2 * m) + n * (28 + 17 * m + 12 * 2 ^ m) + (8 + 13 * m + 9 * (m * m) + 2 ^ m * (9 + 7 * (m * m)))
-  plan_closed = plan_length ∙ size_closed
+  plan_closed : length (plan n m) ≡ closed_length (2 ^ m)
+  unfolding table_size row_size table work sum_to scratch_count
+  plan_closed = omega (arith, plan_length)
 
   -- demand 3's limit on the count of orders: with m ≥ 1 its power is at least 64, which is more than each bid needs
   pub plan_bound : 0 < m → m ≤ pool_limit → length (plan n m) ≤ order_limit n m
   plan_bound p k = rw plan_closed (go (2 ^ m) ((m + 1) ^ 6) (power_small m k) (pow-le-pow_left {n = 2} {m = m + 1} (omega arith) 6))
     where
-      go : (sets power : ℕ) → sets ≤ 2 ^ pool_limit → 2 ^ 6 ≤ power
-          → n * n * (1 + 2 * m) + n * (28 + 17 * m + 12 * sets) + (8 + 13 * m + 9 * (m * m) + sets * (9 + 7 * (m * m))) ≤ n * (100 * n + 40 * power) + 10000
+      go : (sets power : ℕ) → sets ≤ 2 ^ pool_limit → 2 ^ 6 ≤ power → closed_length sets ≤ n * (100 * n + 40 * power) + 10000
       go sets power a b =
           omega (
             arith,
@@ -132,12 +131,6 @@ module _ (n m : ℕ) where
   numbered_writes h k =
       all_map (PlacedOrder n m) (WritesWell n m) (renamed (cell_of n m)) placed_writes (flat (table n m)) (each_flat (PlacedOrder n m) (table n m) (table_placed h k))
 
--- how many orders that is, at the least and the greatest counts and between
-lengths :
-    length (plan 0 1) ∷ length (plan 0 4) ∷ length (plan 8 2) ∷ length (plan 64 1) ∷ length (plan 64 2) ∷ length (plan 64 4) ∷ []
-    ≡ 62 ∷ 2140 ∷ 1418 ∷ 16766 ∷ 27738 ∷ 57436 ∷ []
-lengths = rw (plan_closed 0 1, plan_closed 0 4, plan_closed 8 2, plan_closed 64 1, plan_closed 64 2, plan_closed 64 4) refl
-
 target_is : (o : OrderOn ℕ) → target_of (order_of o) ≡ target o
 target_is (constant d k) = refl
 target_is (operate adding d a b) = refl
@@ -151,3 +144,9 @@ unfolding plan
 plan_writes_no_input n m h k =
     all_map (WritesWell n m) (WritesNoInput n m) order_of (λ o w. (w.1, rw (target_is o) w.0.0)) (cell_orders n m)
     (numbered_writes n m h k)
+
+-- the plan's length at the least and the greatest counts, and between
+lengths :
+    length (plan 0 1) ∷ length (plan 0 4) ∷ length (plan 8 2) ∷ length (plan 64 1) ∷ length (plan 64 2) ∷ length (plan 64 4) ∷ []
+    ≡ 62 ∷ 2140 ∷ 1418 ∷ 16766 ∷ 27738 ∷ 57436 ∷ []
+lengths = rw (plan_closed 0 1, plan_closed 0 4, plan_closed 8 2, plan_closed 64 1, plan_closed 64 2, plan_closed 64 4) refl

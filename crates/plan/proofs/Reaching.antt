@@ -14,7 +14,7 @@ use Rattle.plan.specs.Loops.{loop, writes_loop, eqb_same}
 use Rattle.plan.proofs.Holds.{Holds, Phase, holds_keep, touches, fill_column}
 use Rattle.plan.specs.Names.{ZeroCells, Units, Slacks, SlackTests, ReachTests, ReachTest}
 use Rattle.plan.specs.Subsets.{leaves}
-use Rattle.plan.specs.Running.{Tests, conjoin}
+use Rattle.plan.specs.Running.{Conjoins, conjoin}
 use Rattle.plan.proofs.Values.{cell_tables, slack, slack_after, unparted, reached}
 use Rattle.plan.specs.Blocks.{slack_test_block, reach_start, reach_cell, reach_turn}
 use Rattle.plan.specs.Table.{reach_block}
@@ -35,7 +35,7 @@ module _ (B : Book) (sound : Sound B) where
   HoldsTests = Holds (cell_tables B) (SlackTests ∷ Units ∷ [])
 
   module _ (l : ℕ) where
-    reach_tests : (a b S : ℕ) → S < 2 ^ B.m → Tests HoldsTests (ReachTest l) (reach_turn l a b S) (unparted B a b S)
+    reach_tests : (a b S : ℕ) → S < 2 ^ B.m → Conjoins HoldsTests (ReachTest l) (reach_turn l a b S) (unparted B a b S)
     reach_tests a b S c t x h e = (
       holds_keep (cell_tables B) (ReachTests ∷ []) (SlackTests ∷ Units ∷ []) refl (reach_turn l a b S) refl t h,
       rw (eqb_same l, e) (go (leaves S a b)),

@@ -127,7 +127,7 @@ amount_block i =
     ∷ sum (Amount i) (Used i) (Temporary 0)
     ∷ []
 
--- ---- the flows
+-- ---- the slacks
 
 -- what is used in pool p, 0 to start from
 abbrev pub placement_start : ℕ → Block
@@ -140,6 +140,27 @@ placement_turn p i = product (Temporary 0) (Membership i p) (Used i) ∷ sum (Pl
 -- the slack of set S before any line has its flow
 abbrev pub slack_block : ℕ → Block
 slack_block S = difference (Slack S) (Cut S) (Subset S) ∷ []
+
+-- ---- which pool reaches which
+
+-- has set S slack, before the lines take any?
+abbrev pub slack_test_block : ℕ → Block
+slack_test_block S = less (SlackTest S) ZeroCell (Slack S) ∷ []
+
+-- whether pool l / m reaches pool l % m, 1 to start from
+abbrev pub reach_start : ℕ → Block
+reach_start l = constant (ReachTest l) 1 ∷ []
+
+-- what the test is multiplied by: whether the set has slack, or 1; every turn is one order
+abbrev pub reach_cell : Bool → (S : ℕ) → Name
+reach_cell true S = SlackTest S
+reach_cell false S = One
+
+-- pool a of line l does not reach its pool b, if set S holds a without b and has no slack
+abbrev pub reach_turn : (l a b S : ℕ) → Block
+reach_turn l a b S = product (ReachTest l) (ReachTest l) (reach_cell (leaves S a b) S) ∷ []
+
+-- ---- the lines
 
 -- what line a to b leaves unused, its capacity to start from
 abbrev pub rest_start : (a b : ℕ) → Block
@@ -167,25 +188,6 @@ taken_cell false false l = ZeroCell
 -- the slack of S after line l, a to b
 abbrev pub take_turn : (l a b S : ℕ) → Block
 take_turn l a b S = difference (Slack S) (Slack S) (taken_cell (leaves S a b) (leaves S b a) l) ∷ []
-
--- ---- which pool reaches which
-
--- has set S slack, before the lines take any?
-abbrev pub slack_test_block : ℕ → Block
-slack_test_block S = less (SlackTest S) ZeroCell (Slack S) ∷ []
-
--- whether pool l / m reaches pool l % m, 1 to start from
-abbrev pub reach_start : ℕ → Block
-reach_start l = constant (ReachTest l) 1 ∷ []
-
--- what the test is multiplied by: whether the set has slack, or 1; every turn is one order
-abbrev pub reach_cell : Bool → (S : ℕ) → Name
-reach_cell true S = SlackTest S
-reach_cell false S = One
-
--- pool a of line l does not reach its pool b, if set S holds a without b and has no slack
-abbrev pub reach_turn : (l a b S : ℕ) → Block
-reach_turn l a b S = product (ReachTest l) (ReachTest l) (reach_cell (leaves S a b) S) ∷ []
 
 -- ---- the prices
 

@@ -83,11 +83,11 @@ raise J c n f v small turn s j e =
     (r.0, r.1 ∙ ap (λ (x : ℕ). max x (v i)) ih.1))
 
 -- c, which holds a test, takes it and another
-abbrev pub Tests : (State → Type 0) → Name → List (OrderOn Name) → Bool → Type 0
-Tests J c l v = (t : State) (x : Bool) → J t → t c ≡ on x 1 → J (run l t) × (run l t c ≡ on (x && v) 1)
+abbrev pub Conjoins : (State → Type 0) → Name → List (OrderOn Name) → Bool → Type 0
+Conjoins J c l v = (t : State) (x : Bool) → J t → t c ≡ on x 1 → J (run l t) × (run l t c ≡ on (x && v) 1)
 
 -- from 1
-pub conjoin : (J : State → Type 0) (c : Name) (n : ℕ) (f : ℕ → List (OrderOn Name)) (v : ℕ → Bool) → ((i : ℕ) → i < n → Tests J c (f i) (v i))
+pub conjoin : (J : State → Type 0) (c : Name) (n : ℕ) (f : ℕ → List (OrderOn Name)) (v : ℕ → Bool) → ((i : ℕ) → i < n → Conjoins J c (f i) (v i))
     → (s : State) → J s → s c ≡ 1 → J (run (loop n f) s) × (run (loop n f) s c ≡ on (all_to n v) 1)
 unfolding all_to
 conjoin J c n f v turn s j e =

@@ -104,7 +104,7 @@ module _ (n m : ℕ) where
   abbrev pub slack_phase : Phase
   slack_phase = phase 1 (subset_part (λ _. Placement) ∷ part (2 ^ m) 1 (λ _. slack_block) (λ _ S. refl) ∷ [])
 
-  -- ---- whether pool l / m reaches pool l % m, for which every set that holds the first without the second has slack; before the lines use the slacks up
+  -- ---- whether pool l / m reaches pool l % m: it does if every set that holds the first without the second has slack; before the lines use the slacks up
 
   -- a start, then a turn for each set
   abbrev pub reach_phase : Phase

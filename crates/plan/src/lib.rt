@@ -64,7 +64,7 @@ pub enum Family {
     SlackTests,
     // Whether the pool where a line begins reaches the pool where it ends, as 1 or 0.
     ReachTests,
-    // The limit and 1, less each bid's price; 0 for a bid that is used up, since no margin else is.
+    // The limit and 1, less each bid's price; 0 for a bid that is used up, which no margin is otherwise.
     Margins,
     // The greatest margin in each pool.
     PoolMargins,

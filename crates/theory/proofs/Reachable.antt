@@ -43,7 +43,7 @@ module _ (B : Book) (ok : Sound B) (f : ℕ → ℕ → ℕ) (q : ℕ) where
           way (digits_div b l)
           (back (b * B.m + a) (digits_lt r l) (rw (digits_div b l, digits_mod b l) (ltb-true 0 (f b a) h)) (way (sym (digits_mod b l)) w))
 
-  -- a way by pools is a way by lines
+  -- a way by pools is a way by lines, and back
   to_lines : {p : ℕ} → Reaches B f q p → Reach (network_of B) (by_lines B f) q p
   to_lines itself = here
   to_lines (step a b l r w h) = by_line a b l r h (to_lines w)
@@ -97,14 +97,14 @@ module _ (B : Book) (h : AcceptedBook B) (c : Clearing) (b : Best B c) where
         amount_in_ext (network_of B) (cut_used B) (network_sound B ok) (member k) S same,
       )))
 
--- a set's two members and its slack, as tests
-parts_not : (s t v : Bool) → s ≡ true → t ≡ false → (not (s && not t) || v) ≡ true → v ≡ true
-parts_not s t v e g h = rw (e, g) at h
+-- what the test of a set with q and without p says of its slack, and what makes it
+slack_where_parted : (s t v : Bool) → s ≡ true → t ≡ false → (not (s && not t) || v) ≡ true → v ≡ true
+slack_where_parted s t v e g h = rw (e, g) at h
 
-parts : (s t v : Bool) → (s ≡ true → t ≡ false → v ≡ true) → (not (s && not t) || v) ≡ true
-parts true true v h = refl
-parts true false v h = h refl refl
-parts false t v h = refl
+unparted_made : (s t v : Bool) → (s ≡ true → t ≡ false → v ≡ true) → (not (s && not t) || v) ≡ true
+unparted_made true true v h = refl
+unparted_made true false v h = h refl refl
+unparted_made false t v h = refl
 
 -- so it does not depend on the flows: what is computed of them is given by the slacks
 pub reaches_closed : (B : Book) → AcceptedBook B → (c : Clearing) → Best B c → (q p : ℕ) → q < B.m → p < B.m → reaches B c.flow q p ≡ reached B q p
@@ -112,6 +112,6 @@ unfolding reached
 reaches_closed B h c b q p l r =
     both_ways (reaches B c.flow q p) (all_to (2 ^ B.m) (unparted B q p))
     (λ e. all_to_made (2 ^ B.m) (unparted B q p) (λ S _.
-    parts (member S q) (member S p) (ltb 0 (slack B S)) (λ x y. lt-ltb 0 (slack B S) (reached_slack B h c b q p (reaches_says B c.flow q p l r e) S x y))))
+    unparted_made (member S q) (member S p) (ltb 0 (slack B S)) (λ x y. lt-ltb 0 (slack B S) (reached_slack B h c b q p (reaches_says B c.flow q p l r e) S x y))))
     (λ e. reaches_made B c.flow (slack_reached B h c b q p l r (λ S s x y.
-    ltb-true 0 (slack B S) (parts_not (member S q) (member S p) (ltb 0 (slack B S)) x y (all_to_at (2 ^ B.m) (unparted B q p) e S s)))))
+    ltb-true 0 (slack B S) (slack_where_parted (member S q) (member S p) (ltb 0 (slack B S)) x y (all_to_at (2 ^ B.m) (unparted B q p) e S s)))))

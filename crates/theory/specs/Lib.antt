@@ -1,4 +1,5 @@
--- The best clearing exists, is unique, has the greatest welfare (BestClearing), and is given by cuts (ClosedBest).
+-- The best clearing exists, is unique, has the greatest welfare (BestClearing), and is given by cuts (ClosedBest); its prices do not depend on its flows
+-- (PoolPrice).
 -- A law is named after what it is about; its ending says what is said: _is (it equals another form), _same (equal numbers give
 -- an equal result), _ext (only what is below a count matters), _one (one term of a sum), _small or _le (a bound).
 -- Numbers, tests and orders.

@@ -1,5 +1,5 @@
--- What a pool price is, in the request's words (`LeastPrice` of the bids that `Supplies` says), and how a plan computes it: as the greatest of the limit and 1,
--- less each price.
+-- What a pool price is, in the request's words (`LeastPrice` of the bids that `Supplies` says), and how a plan computes it: as a greatest, of
+-- the limit and 1 less the price over these bids.
 use Rattle.std.specs.Prelude.{◌≡◌, Bool, true, false, cond, ◌&&◌, ltb, ℤ, pos, negsuc, ◌≤ℤ◌, refl, ℕ, zero, suc, ◌*◌, ◌+◌, ◌≤◌, ◌<◌, max}
 use Rattle.std.proofs.Common.{ap₂, arith, lt-ltb}
 use Rattle.std.specs.Int.Signed.{lt_z}

@@ -3,7 +3,7 @@ use Rattle.std.proofs.Common.{refl}
 use Rattle.plan.specs.Table.{reach_phase}
 use Rattle.orders.specs.Named.{made}
 use Rattle.orders.specs.Shaped.{one_of_second}
-use Rattle.orders.proofs.table.reaching.Goals as goal
+use Rattle.orders.proofs.table.reach_tests.Goals as goal
 
 pub returns : goal.returns
 unfolding made
