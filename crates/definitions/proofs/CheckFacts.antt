@@ -40,15 +40,15 @@ sizes = refl
 
 -- ---- the refusals
 
--- one pool and one bid, with this entry on the diagonal
+-- one pool and one bid with hundredths of 0, and this entry on the diagonal
 abbrev one : (pool price quantity capacity : ℤ) → Book
-one pool price quantity capacity = book 1 1 (pool ∷ price ∷ quantity ∷ []) (capacity ∷ [])
+one pool price quantity capacity = book 1 1 (pool ∷ price ∷ quantity ∷ pos 0 ∷ []) (capacity ∷ [])
 
 -- accepted; each of the four lengths one off; lengths before bids, bids before capacities, counts before lengths
 refusals :
     check_refusal (one (pos 1) (pos 5) (pos 7) (pos 0)) 1 1
-    ∷ check_refusal (book 1 1 (pos 1 ∷ pos 5 ∷ []) (pos 0 ∷ [])) 1 1
-    ∷ check_refusal (book 1 1 (pos 1 ∷ pos 5 ∷ pos 7 ∷ []) []) 1 1
+    ∷ check_refusal (book 1 1 (pos 1 ∷ pos 5 ∷ pos 7 ∷ []) (pos 0 ∷ [])) 1 1
+    ∷ check_refusal (book 1 1 (pos 1 ∷ pos 5 ∷ pos 7 ∷ pos 0 ∷ []) []) 1 1
     ∷ check_refusal (one (pos 1) (pos 5) (pos 7) (pos 0)) 2 1
     ∷ check_refusal (one (pos 1) (pos 5) (pos 7) (pos 0)) 1 0
     ∷ check_refusal (one (pos 2) (pos 5) (pos 7) (pos 0)) 1 2
@@ -66,8 +66,8 @@ refusals = refl
 
 -- without the book's own numbers: each of the four lengths one off, and a bad bid with right lengths
 lengths :
-    sent_refusal (book 1 1 (pos 1 ∷ pos 5 ∷ []) (pos 0 ∷ [])) 1 1
-    ∷ sent_refusal (book 1 1 (pos 1 ∷ pos 5 ∷ pos 7 ∷ []) []) 1 1
+    sent_refusal (book 1 1 (pos 1 ∷ pos 5 ∷ pos 7 ∷ []) (pos 0 ∷ [])) 1 1
+    ∷ sent_refusal (book 1 1 (pos 1 ∷ pos 5 ∷ pos 7 ∷ pos 0 ∷ []) []) 1 1
     ∷ sent_refusal (one (pos 1) (pos 5) (pos 7) (pos 0)) 0 1
     ∷ sent_refusal (one (pos 1) (pos 5) (pos 7) (pos 0)) 1 2
     ∷ sent_refusal (one (pos 2) (pos 5) (pos 7) (pos 0)) 1 1
@@ -79,8 +79,8 @@ lengths = refl
 -- the test of numbers of any length: right numbers; each of the four lengths one off; too many pools; out of balance
 tested :
     sent_feasible book_two (pos 3 ∷ pos 3 ∷ []) (shipped (pos 3) (pos 0))
-    ∷ sent_feasible (book 1 1 (pos 1 ∷ pos 5 ∷ []) (pos 0 ∷ [])) (pos 0 ∷ []) (pos 0 ∷ [])
-    ∷ sent_feasible (book 1 1 (pos 1 ∷ pos 5 ∷ pos 7 ∷ []) []) (pos 0 ∷ []) (pos 0 ∷ [])
+    ∷ sent_feasible (book 1 1 (pos 1 ∷ pos 5 ∷ pos 7 ∷ []) (pos 0 ∷ [])) (pos 0 ∷ []) (pos 0 ∷ [])
+    ∷ sent_feasible (book 1 1 (pos 1 ∷ pos 5 ∷ pos 7 ∷ pos 0 ∷ []) []) (pos 0 ∷ []) (pos 0 ∷ [])
     ∷ sent_feasible (one (pos 1) (pos 5) (pos 7) (pos 0)) [] (pos 0 ∷ [])
     ∷ sent_feasible (one (pos 1) (pos 5) (pos 7) (pos 0)) (pos 0 ∷ []) (pos 0 ∷ pos 0 ∷ [])
     ∷ sent_feasible (book 0 5 [] (replicate 25 (pos 0))) [] (replicate 25 (pos 0))
@@ -98,7 +98,7 @@ parts = refl
 -- ---- 1 for sale at 20 in the first pool, 1 wanted at 30 in the second, and 1 can be shipped
 
 pair : Book
-pair = book 2 2 (pos 1 ∷ pos 20 ∷ neg_ℤ (pos 1) ∷ pos 2 ∷ pos 30 ∷ pos 1 ∷ []) (shipped (pos 1) (pos 0))
+pair = book 2 2 (pos 1 ∷ pos 20 ∷ neg_ℤ (pos 1) ∷ pos 0 ∷ pos 2 ∷ pos 30 ∷ pos 1 ∷ pos 0 ∷ []) (shipped (pos 1) (pos 0))
 
 -- so much is traded and shipped
 traded : ℕ → Clearing

@@ -2,7 +2,7 @@
 use Rattle.std.proofs.Common.{ℕ, zero, suc, ◌+◌, ◌*◌, ◌≡◌, refl, true, false, List, [], ◌∷◌, arith, get_or, pos, neg_ℤ}
 use Rattle.definitions.proofs.Cases.{below_one, below_two, below_three, lines_of_two}
 use Rattle.definitions.specs.Arithmetic.{sum_to, sum_z}
-use Rattle.definitions.specs.Book.{Book, book}
+use Rattle.definitions.specs.Book.{Book, book, whole_price, hundredths, price}
 use Rattle.definitions.specs.Examples.{book_one, book_two, book_four, book_five}
 use Rattle.definitions.specs.Clearing.{Clearing, Feasible, Best, Permitted, NoGreater, equal, less, sold, bought, inflow, outflow, welfare, before, used}
 
@@ -14,8 +14,8 @@ listed m xs fs = record { accepted = λ i. get_or xs i 0; flow = λ a b. get_or 
 unfoldable pub merit : Book
 merit =
     book 6 1
-    (pos 1 ∷ pos 30 ∷ neg_ℤ (pos 5) ∷ pos 1 ∷ pos 30 ∷ neg_ℤ (pos 5) ∷ pos 1 ∷ pos 30 ∷ pos 4 ∷ pos 1 ∷ pos 30 ∷ pos 4
-    ∷ pos 1 ∷ pos 10 ∷ neg_ℤ (pos 5) ∷ pos 1 ∷ neg_ℤ (pos 40) ∷ pos 0 ∷ [])
+    (pos 1 ∷ pos 30 ∷ neg_ℤ (pos 5) ∷ pos 0 ∷ pos 1 ∷ pos 30 ∷ neg_ℤ (pos 5) ∷ pos 0 ∷ pos 1 ∷ pos 30 ∷ pos 4 ∷ pos 0 ∷ pos 1 ∷ pos 30 ∷ pos 4
+    ∷ pos 0 ∷ pos 1 ∷ pos 10 ∷ neg_ℤ (pos 5) ∷ pos 0 ∷ pos 1 ∷ neg_ℤ (pos 40) ∷ pos 0 ∷ pos 0 ∷ [])
     (pos 0 ∷ [])
 
 clauses :
@@ -27,6 +27,30 @@ clauses :
     ≡ true ∷ false ∷ true ∷ false ∷ true ∷ false ∷ true ∷ false ∷ true ∷ false ∷ false ∷ []
 unfolding merit before
 clauses = refl
+
+-- ---- the price in hundredths: "Two offers at 25 are equal today even if their owners meant 25.10 and 25.40"
+
+-- sales at 25.40, 25.10 and −2.75, purchases at 25.10 and 26.00, of 2 each
+unfoldable pub parted : Book
+parted =
+    book 5 1
+    (pos 1 ∷ pos 25 ∷ neg_ℤ (pos 2) ∷ pos 40 ∷ pos 1 ∷ pos 25 ∷ neg_ℤ (pos 2) ∷ pos 10 ∷ pos 1 ∷ neg_ℤ (pos 3) ∷ neg_ℤ (pos 2) ∷ pos 25
+    ∷ pos 1 ∷ pos 25 ∷ pos 2 ∷ pos 10 ∷ pos 1 ∷ pos 26 ∷ pos 2 ∷ pos 0 ∷ [])
+    (pos 0 ∷ [])
+
+-- "(−3 with 25 is −2.75)"
+pub read_prices : price parted 2 ∷ whole_price parted 2 ∷ hundredths parted 2 ∷ price parted 0 ∷ price parted 4 ∷ []
+    ≡ neg_ℤ (pos 275) ∷ neg_ℤ (pos 3) ∷ pos 25 ∷ pos 2540 ∷ pos 2600 ∷ []
+unfolding parted
+read_prices = refl
+
+-- the lower first, by its hundredths too; at equal price sales before purchases
+parted_clauses :
+    before parted 1 0 ∷ before parted 0 1 ∷ before parted 2 1 ∷ before parted 1 3 ∷ before parted 3 1 ∷ before parted 3 0
+    ∷ before parted 0 3 ∷ before parted 0 4 ∷ before parted 4 0 ∷ []
+    ≡ true ∷ false ∷ true ∷ true ∷ false ∷ true ∷ false ∷ true ∷ false ∷ []
+unfolding parted before
+parted_clauses = refl
 
 -- ---- example 4: of two equal purchases the first is served first, since the later one comes first as used amount
 right : Clearing
@@ -88,12 +112,13 @@ best_is_feasible h = omega (arith, h.feasible.flows 0 0 (omega arith) (omega ari
 both_ways : Permitted (book 0 2 [] (pos 0 ∷ pos 7 ∷ pos 7 ∷ pos 0 ∷ [])) (listed 2 [] (0 ∷ 1 ∷ 1 ∷ 0 ∷ [])) → ⊥
 both_ways h = omega (arith, h.one_way 0 1 (omega arith) (omega arith) (omega arith))
 
--- ---- welfare of trades at a gain and at a loss, with bids of both signs of price
+-- ---- welfare in hundredths of trades at a gain and at a loss, with bids of both signs of price; and with hundredths
 welfares :
     welfare book_one (λ i. get_or (5 ∷ 5 ∷ []) i 0)
     ∷ welfare book_five (λ i. get_or (4 ∷ 4 ∷ []) i 0)
     ∷ welfare merit (λ i. get_or (5 ∷ 0 ∷ 4 ∷ 0 ∷ 1 ∷ 0 ∷ []) i 0)
+    ∷ welfare parted (λ i. get_or (0 ∷ 1 ∷ 2 ∷ 1 ∷ 2 ∷ []) i 0)
     ∷ []
-    ≡ pos 50 ∷ neg_ℤ (pos 40) ∷ neg_ℤ (pos 40) ∷ []
-unfolding book_one book_five merit welfare sum_z
+    ≡ pos 5000 ∷ neg_ℤ (pos 4000) ∷ neg_ℤ (pos 4000) ∷ pos 5750 ∷ []
+unfolding book_one book_five merit parted welfare sum_z
 welfares = refl

@@ -4,7 +4,7 @@ use Rattle.definitions.proofs.Cases.{below_one, below_two}
 use Rattle.definitions.specs.declared.Order.TheVariants.{Constant, Sum}
 use Rattle.definitions.specs.Arithmetic.{sum_to, sum_z, any_to, join_to}
 use Rattle.definitions.specs.Book.{Book, book}
-use Rattle.definitions.specs.Sheet.{sealed_sheet, amount_cell, flow_cell, price_cell, presence_cell, first_scratch}
+use Rattle.definitions.specs.Sheet.{sealed_sheet, amount_cell, flow_cell, price_cell, presence_cell, first_scratch, hundredths_cell}
 use Rattle.definitions.specs.Examples.{book_one, book_two, book_five, book_seven}
 use Rattle.definitions.specs.Clearing.{Clearing, Feasible, Best, NoGreater, equal, less, sold, bought, inflow, outflow, welfare, before, used}
 use Rattle.definitions.specs.PoolPrice.{reaches_over, reaches, least_price, pool_price}
@@ -84,14 +84,15 @@ one_scratch_cell_left s c l some h = omega (arith, h.scratch c l)
 -- ---- what else an outcome says
 
 -- input cells are as sealed: the first, one of a negative number, the last
-inputs_kept : (s : List ℕ) → Outcome book_two s → (cell s 0 ≡ 1) × (cell s 2 ≡ 2147483637) × (cell s 9 ≡ 0)
+inputs_kept : (s : List ℕ) → Outcome book_two s → (cell s 0 ≡ 1) × (cell s 2 ≡ 2147483637) × (cell s 11 ≡ 0)
 unfolding book_two sealed_sheet
-inputs_kept s h = (h.inputs 0 (omega arith), h.inputs 2 (omega arith), h.inputs 9 (omega arith))
+inputs_kept s h = (h.inputs 0 (omega arith), h.inputs 2 (omega arith), h.inputs 11 (omega arith))
 
--- a book with no bid has no price: "both cells are 0"
-no_price : (s : List ℕ) → Outcome book_seven s → (cell s (price_cell 0 2 1) ≡ 0) × (cell s (presence_cell 0 2 1) ≡ 0)
+-- a book with no bid has no price: "all 0 if missing"
+no_price : (s : List ℕ) → Outcome book_seven s
+    → (cell s (price_cell 0 2 1) ≡ 0) × (cell s (hundredths_cell 0 2 1) ≡ 0) × (cell s (presence_cell 0 2 1) ≡ 0)
 unfolding book_seven pool_price least_price
-no_price s h = (h.prices 1 (omega arith), h.presences 1 (omega arith))
+no_price s h = (h.prices 1 (omega arith), h.hundredths 1 (omega arith), h.presences 1 (omega arith))
 
 -- a pool has the lower of two prices, that of the sale, of which 4 are left, and that of the purchase
 a_price : (s : List ℕ) → Outcome book_one s → cell s (amount_cell 2 1 0) ≡ 6 → cell s (amount_cell 2 1 1) ≡ 6
@@ -112,29 +113,41 @@ negative_price : (s : List ℕ) → Outcome book_five s → cell s (amount_cell 
 unfolding book_five pool_price least_price any_to used reaches reaches_over
 negative_price s h e f = (rw (e, f) at (h.prices 0 (omega arith)), rw (e, f) at (h.presences 0 (omega arith)))
 
--- what is opened of a clearing: amounts, flows by rows, price and presence of each pool
+-- a price of −2.75 stands as −3 and 25: nothing is accepted of a sale without a purchase
+cheap : Book
+cheap = book 1 1 (pos 1 ∷ neg_ℤ (pos 3) ∷ neg_ℤ (pos 5) ∷ pos 25 ∷ []) (pos 0 ∷ [])
+
+parts_of_price : (s : List ℕ) → Outcome cheap s → cell s (amount_cell 1 1 0) ≡ 0
+    → (cell s (price_cell 1 1 0) ≡ 2147483644) × (cell s (hundredths_cell 1 1 0) ≡ 25) × (cell s (presence_cell 1 1 0) ≡ 1)
+unfolding cheap pool_price least_price any_to used reaches reaches_over
+parts_of_price s h e =
+    (rw e at (h.prices 0 (omega arith)), rw e at (h.hundredths 0 (omega arith)), rw e at (h.presences 0 (omega arith)))
+
+-- what is opened of a clearing: amounts, flows by rows, price, hundredths and presence of each pool
 results :
     clearing_results book_two (record { accepted = λ i. get_or (3 ∷ 4 ∷ []) i 0; flow = λ a b. get_or (5 ∷ 6 ∷ 0 ∷ 8 ∷ []) (a + a + b) 0 })
     ∷ clearing_results book_five (amounts (4 ∷ 4 ∷ []))
     ∷ clearing_results book_seven (amounts [])
+    ∷ clearing_results cheap (amounts [])
     ∷ []
-    ≡ (pos 3 ∷ pos 4 ∷ pos 5 ∷ pos 6 ∷ pos 0 ∷ pos 8 ∷ pos 20 ∷ pos 1 ∷ pos 30 ∷ pos 1 ∷ [])
-    ∷ (pos 4 ∷ pos 4 ∷ pos 0 ∷ neg_ℤ (pos 20) ∷ pos 1 ∷ [])
-    ∷ (pos 0 ∷ pos 0 ∷ pos 0 ∷ pos 0 ∷ pos 0 ∷ pos 0 ∷ pos 0 ∷ pos 0 ∷ [])
+    ≡ (pos 3 ∷ pos 4 ∷ pos 5 ∷ pos 6 ∷ pos 0 ∷ pos 8 ∷ pos 20 ∷ pos 0 ∷ pos 1 ∷ pos 30 ∷ pos 0 ∷ pos 1 ∷ [])
+    ∷ (pos 4 ∷ pos 4 ∷ pos 0 ∷ neg_ℤ (pos 20) ∷ pos 0 ∷ pos 1 ∷ [])
+    ∷ (pos 0 ∷ pos 0 ∷ pos 0 ∷ pos 0 ∷ pos 0 ∷ pos 0 ∷ pos 0 ∷ pos 0 ∷ pos 0 ∷ pos 0 ∷ [])
+    ∷ (pos 0 ∷ pos 0 ∷ neg_ℤ (pos 3) ∷ pos 25 ∷ pos 1 ∷ [])
     ∷ []
-unfolding book_two book_five book_seven clearing_results join_to pool_price least_price any_to used reaches reaches_over
+unfolding book_two book_five book_seven cheap clearing_results join_to pool_price least_price any_to used reaches reaches_over
 results = refl
 
 -- ---- clearing, by a plan of three orders that accepts 6 and 6 for example 1
 
 three : Plan
-three n m = Constant 7 6 ∷ Sum 8 7 12 ∷ Constant 12 0 ∷ []
+three n m = Constant 9 6 ∷ Sum 10 9 15 ∷ Constant 15 0 ∷ []
 
 cleared :
     clear_sheet three book_one (replicate 4096 9)
     ∷ clear_sheet three book_one (9 ∷ 9 ∷ [])
     ∷ []
-    ≡ (1 ∷ 20 ∷ 2147483637 ∷ 1 ∷ 30 ∷ 6 ∷ 0 ∷ 6 ∷ 6 ∷ replicate 4087 0)
+    ≡ (1 ∷ 20 ∷ 2147483637 ∷ 0 ∷ 1 ∷ 30 ∷ 6 ∷ 0 ∷ 0 ∷ 6 ∷ 6 ∷ replicate 4085 0)
     ∷ (9 ∷ 9 ∷ [])
     ∷ []
 unfolding three book_one clear_sheet plan_run run_of sealed_sheet seal_refusal bids_refusal capacities_refusal row_refusal first_from
@@ -142,13 +155,13 @@ cleared = refl
 
 -- the same book, but for the second bid's pool, which is none
 faulty : Book
-faulty = book 2 1 (pos 1 ∷ pos 20 ∷ neg_ℤ (pos 10) ∷ pos 2 ∷ pos 30 ∷ pos 6 ∷ []) (pos 0 ∷ [])
+faulty = book 2 1 (pos 1 ∷ pos 20 ∷ neg_ℤ (pos 10) ∷ pos 0 ∷ pos 2 ∷ pos 30 ∷ pos 6 ∷ pos 0 ∷ []) (pos 0 ∷ [])
 
 counted : clear_count three book_one 4096 ∷ clear_count three book_one 4095 ∷ clear_count three faulty 4096 ∷ [] ≡ 3 ∷ 0 ∷ 0 ∷ []
 unfolding three book_one faulty clear_count seal_refusal bids_refusal capacities_refusal row_refusal first_from
 counted = refl
 
-summed : clear_welfare three book_one 4096 ∷ clear_welfare three book_one 4095 ∷ clear_welfare three faulty 4096 ∷ [] ≡ pos 60 ∷ pos 0 ∷ pos 0 ∷ []
+summed : clear_welfare three book_one 4096 ∷ clear_welfare three book_one 4095 ∷ clear_welfare three faulty 4096 ∷ [] ≡ pos 6000 ∷ pos 0 ∷ pos 0 ∷ []
 unfolding three book_one faulty clear_welfare welfare sum_z plan_run run_of sealed_sheet seal_refusal bids_refusal capacities_refusal row_refusal first_from
 summed = refl
 
@@ -157,10 +170,10 @@ sales_summed :
     ∷ clear_sales_welfare three book_one 4095
     ∷ clear_sales_welfare three faulty 4096
     ∷ []
-    ≡ neg_ℤ (pos 120) ∷ pos 0 ∷ pos 0 ∷ []
+    ≡ neg_ℤ (pos 12000) ∷ pos 0 ∷ pos 0 ∷ []
 unfolding three book_one faulty clear_sales_welfare sales_welfare sum_of_sales end_figure sum_with_purchases running_sum plan_run run_of sealed_sheet seal_refusal bids_refusal capacities_refusal row_refusal first_from
 sales_summed = refl
 
 -- demand 3's limit, at the ends and at a middle
-limits : order_limit 0 1 ∷ order_limit 8 2 ∷ order_limit 64 4 ∷ [] ≡ 10000 ∷ 249680 ∷ 40419600 ∷ []
+limits : order_limit 0 1 ∷ order_limit 8 2 ∷ order_limit 64 4 ∷ [] ≡ 10000 ∷ 256080 ∷ 40829200 ∷ []
 limits = refl

@@ -6,7 +6,7 @@ use Rattle.definitions.specs.RunningSum.{running_sum, sum_of_sales, sales_welfar
 
 -- (2,30,6), (1,20,−10), (2,5,0): a purchase, a sale in another pool, a withdrawn bid
 mixed : Book
-mixed = book 3 2 (pos 2 ∷ pos 30 ∷ pos 6 ∷ pos 1 ∷ pos 20 ∷ neg_ℤ (pos 10) ∷ pos 2 ∷ pos 5 ∷ pos 0 ∷ []) []
+mixed = book 3 2 (pos 2 ∷ pos 30 ∷ pos 6 ∷ pos 0 ∷ pos 1 ∷ pos 20 ∷ neg_ℤ (pos 10) ∷ pos 0 ∷ pos 2 ∷ pos 5 ∷ pos 0 ∷ pos 0 ∷ []) []
 
 -- 3, 3 and 1 of these: no clearing, but it shows on which side the withdrawn bid stands
 some : ℕ → ℕ
@@ -23,13 +23,13 @@ after_each :
     ∷ sum_with_purchases mixed some 2
     ∷ sum_with_purchases mixed some 3
     ∷ []
-    ≡ pos 0 ∷ pos 0 ∷ neg_ℤ (pos 60) ∷ neg_ℤ (pos 65) ∷ neg_ℤ (pos 65) ∷ pos 25 ∷ pos 25 ∷ pos 25 ∷ []
+    ≡ pos 0 ∷ pos 0 ∷ neg_ℤ (pos 6000) ∷ neg_ℤ (pos 6500) ∷ neg_ℤ (pos 6500) ∷ pos 2500 ∷ pos 2500 ∷ pos 2500 ∷ []
 unfolding mixed some sum_of_sales sum_with_purchases sales_welfare running_sum
 after_each = refl
 
 -- (1,−20,−4), (1,−10,4), of n bids
 below_zero : ℕ → Book
-below_zero n = book n 1 (pos 1 ∷ neg_ℤ (pos 20) ∷ neg_ℤ (pos 4) ∷ pos 1 ∷ neg_ℤ (pos 10) ∷ pos 4 ∷ []) []
+below_zero n = book n 1 (pos 1 ∷ neg_ℤ (pos 20) ∷ neg_ℤ (pos 4) ∷ pos 0 ∷ pos 1 ∷ neg_ℤ (pos 10) ∷ pos 4 ∷ pos 0 ∷ []) []
 
 -- the two figures: of the first book; at negative prices, where the sale raises the sum; of the first of these bids alone; of no bids
 figures :
@@ -42,6 +42,6 @@ figures :
     ∷ sales_welfare book_seven some
     ∷ end_figure book_seven some
     ∷ []
-    ≡ neg_ℤ (pos 65) ∷ pos 25 ∷ pos 80 ∷ pos 40 ∷ pos 80 ∷ pos 80 ∷ pos 0 ∷ pos 0 ∷ []
+    ≡ neg_ℤ (pos 6500) ∷ pos 2500 ∷ pos 8000 ∷ pos 4000 ∷ pos 8000 ∷ pos 8000 ∷ pos 0 ∷ pos 0 ∷ []
 unfolding mixed some below_zero book_seven sum_of_sales sum_with_purchases sales_welfare end_figure running_sum
 figures = refl

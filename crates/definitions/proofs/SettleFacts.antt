@@ -56,28 +56,33 @@ unfolding settle_input words words_from whole_of digits_from word_numbers
 inputs = refl
 
 -- the listing of example 2, in full
-pub listed_two : listing 2 2 (pos 3 ∷ pos 3 ∷ pos 0 ∷ pos 3 ∷ pos 0 ∷ pos 0 ∷ pos 20 ∷ pos 1 ∷ pos 30 ∷ pos 1 ∷ []) (pos 30) ≡ printed_two
+pub listed_two : listing 2 2 (pos 3 ∷ pos 3 ∷ pos 0 ∷ pos 3 ∷ pos 0 ∷ pos 0 ∷ pos 20 ∷ pos 0 ∷ pos 1 ∷ pos 30 ∷ pos 0 ∷ pos 1 ∷ []) (pos 3000) ≡ printed_two
 unfolding printed_two listing bid_lines flow_lines price_lines join_to bid_line flow_line price_line welfare_line decimal_z decimal decimal_to
 listed_two = refl
 
--- negative numbers, and a price that is missing
-negatives : price_line 4 (neg_ℤ (pos 30000)) (pos 1) ∷ price_line 2 (pos 0) (pos 0) ∷ welfare_line (neg_ℤ (pos 125829120000)) ∷ refused_text 15 4095 ∷ []
-    ≡ (112 ∷ 114 ∷ 105 ∷ 99 ∷ 101 ∷ 32 ∷ 52 ∷ 32 ∷ 45 ∷ 51 ∷ 48 ∷ 48 ∷ 48 ∷ 48 ∷ 10 ∷ []) ∷ (112 ∷ 114 ∷ 105 ∷ 99 ∷ 101 ∷ 32 ∷ 50 ∷ 32 ∷ 110 ∷ 111 ∷ 110 ∷ 101 ∷ 10 ∷ []) ∷ (119 ∷ 101 ∷ 108 ∷ 102 ∷ 97 ∷ 114 ∷ 101 ∷ 32 ∷ 45 ∷ 49 ∷ 50 ∷ 53 ∷ 56 ∷ 50 ∷ 57 ∷ 49 ∷ 50 ∷ 48 ∷ 48 ∷ 48 ∷ 48 ∷ 10 ∷ []) ∷ (114 ∷ 101 ∷ 102 ∷ 117 ∷ 115 ∷ 101 ∷ 100 ∷ 32 ∷ 49 ∷ 53 ∷ 32 ∷ 52 ∷ 48 ∷ 57 ∷ 53 ∷ 10 ∷ []) ∷ []
+-- negative numbers, "−3 with 25", and a price that is missing
+negatives : price_line 4 (neg_ℤ (pos 30000)) (pos 0) (pos 1) ∷ price_line 1 (neg_ℤ (pos 3)) (pos 25) (pos 1) ∷ price_line 2 (pos 0) (pos 0) (pos 0) ∷ welfare_line (neg_ℤ (pos 125829120000)) ∷ refused_text 15 4095 ∷ []
+    ≡ (112 ∷ 114 ∷ 105 ∷ 99 ∷ 101 ∷ 32 ∷ 52 ∷ 32 ∷ 45 ∷ 51 ∷ 48 ∷ 48 ∷ 48 ∷ 48 ∷ 48 ∷ 48 ∷ 10 ∷ []) ∷ (112 ∷ 114 ∷ 105 ∷ 99 ∷ 101 ∷ 32 ∷ 49 ∷ 32 ∷ 45 ∷ 50 ∷ 55 ∷ 53 ∷ 10 ∷ []) ∷ (112 ∷ 114 ∷ 105 ∷ 99 ∷ 101 ∷ 32 ∷ 50 ∷ 32 ∷ 110 ∷ 111 ∷ 110 ∷ 101 ∷ 10 ∷ []) ∷ (119 ∷ 101 ∷ 108 ∷ 102 ∷ 97 ∷ 114 ∷ 101 ∷ 32 ∷ 45 ∷ 49 ∷ 50 ∷ 53 ∷ 56 ∷ 50 ∷ 57 ∷ 49 ∷ 50 ∷ 48 ∷ 48 ∷ 48 ∷ 48 ∷ 10 ∷ []) ∷ (114 ∷ 101 ∷ 102 ∷ 117 ∷ 115 ∷ 101 ∷ 100 ∷ 32 ∷ 49 ∷ 53 ∷ 32 ∷ 52 ∷ 48 ∷ 57 ∷ 53 ∷ 10 ∷ []) ∷ []
 unfolding price_line welfare_line refused_text decimal_z decimal decimal_to
 negatives = refl
 
--- a plan that accepts 6 and 6 at a price of 20, and what is printed with it for example 1, `2 1 1 20 -10 1 30 6 0`; then for `0 1 5`, `65 1` and `x`
+-- a plan that accepts 6 and 6 at a price of 20.05, and what is printed with it for example 1, `2 1 1 20 -10 0 1 30 6 0 0`; then for the same with three
+-- numbers a bid, `2 1 1 20 -10 1 30 6 0`, for a bid with the hundredths 100, `1 1 1 5 5 100 0`, for `0 1 5`, `65 1` and `x`
 six : Plan
-six n m = Constant 7 6 ∷ Constant 8 6 ∷ Constant 10 20 ∷ Constant 11 1 ∷ []
+six n m = Constant 9 6 ∷ Constant 10 6 ∷ Constant 12 20 ∷ Constant 13 5 ∷ Constant 14 1 ∷ []
 
 printed :
-    settle_text six (50 ∷ 32 ∷ 49 ∷ 32 ∷ 49 ∷ 32 ∷ 50 ∷ 48 ∷ 32 ∷ 45 ∷ 49 ∷ 48 ∷ 32 ∷ 49 ∷ 32 ∷ 51 ∷ 48 ∷ 32 ∷ 54 ∷ 32 ∷ 48 ∷ [])
+    settle_text six (50 ∷ 32 ∷ 49 ∷ 32 ∷ 49 ∷ 32 ∷ 50 ∷ 48 ∷ 32 ∷ 45 ∷ 49 ∷ 48 ∷ 32 ∷ 48 ∷ 32 ∷ 49 ∷ 32 ∷ 51 ∷ 48 ∷ 32 ∷ 54 ∷ 32 ∷ 48 ∷ 32 ∷ 48 ∷ [])
+    ∷ settle_text six (50 ∷ 32 ∷ 49 ∷ 32 ∷ 49 ∷ 32 ∷ 50 ∷ 48 ∷ 32 ∷ 45 ∷ 49 ∷ 48 ∷ 32 ∷ 49 ∷ 32 ∷ 51 ∷ 48 ∷ 32 ∷ 54 ∷ 32 ∷ 48 ∷ [])
+    ∷ settle_text six (49 ∷ 32 ∷ 49 ∷ 32 ∷ 49 ∷ 32 ∷ 53 ∷ 32 ∷ 53 ∷ 32 ∷ 49 ∷ 48 ∷ 48 ∷ 32 ∷ 48 ∷ [])
     ∷ settle_text six (48 ∷ 32 ∷ 49 ∷ 32 ∷ 53 ∷ [])
     ∷ settle_text six (54 ∷ 53 ∷ 32 ∷ 49 ∷ [])
     ∷ settle_text six (120 ∷ [])
     ∷ []
     ≡ (98 ∷ 105 ∷ 100 ∷ 32 ∷ 49 ∷ 32 ∷ 54 ∷ 10 ∷ 98 ∷ 105 ∷ 100 ∷ 32 ∷ 50 ∷ 32 ∷ 54 ∷ 10
-    ∷ 112 ∷ 114 ∷ 105 ∷ 99 ∷ 101 ∷ 32 ∷ 49 ∷ 32 ∷ 50 ∷ 48 ∷ 10 ∷ 119 ∷ 101 ∷ 108 ∷ 102 ∷ 97 ∷ 114 ∷ 101 ∷ 32 ∷ 54 ∷ 48 ∷ 10 ∷ [])
+    ∷ 112 ∷ 114 ∷ 105 ∷ 99 ∷ 101 ∷ 32 ∷ 49 ∷ 32 ∷ 50 ∷ 48 ∷ 48 ∷ 53 ∷ 10 ∷ 119 ∷ 101 ∷ 108 ∷ 102 ∷ 97 ∷ 114 ∷ 101 ∷ 32 ∷ 54 ∷ 48 ∷ 48 ∷ 48 ∷ 10 ∷ [])
+    ∷ (117 ∷ 110 ∷ 114 ∷ 101 ∷ 97 ∷ 100 ∷ 97 ∷ 98 ∷ 108 ∷ 101 ∷ 10 ∷ [])
+    ∷ (114 ∷ 101 ∷ 102 ∷ 117 ∷ 115 ∷ 101 ∷ 100 ∷ 32 ∷ 53 ∷ 32 ∷ 49 ∷ 10 ∷ [])
     ∷ (114 ∷ 101 ∷ 102 ∷ 117 ∷ 115 ∷ 101 ∷ 100 ∷ 32 ∷ 56 ∷ 32 ∷ 49 ∷ 10 ∷ [])
     ∷ (114 ∷ 101 ∷ 102 ∷ 117 ∷ 115 ∷ 101 ∷ 100 ∷ 32 ∷ 49 ∷ 32 ∷ 48 ∷ 10 ∷ [])
     ∷ (117 ∷ 110 ∷ 114 ∷ 101 ∷ 97 ∷ 100 ∷ 97 ∷ 98 ∷ 108 ∷ 101 ∷ 10 ∷ [])

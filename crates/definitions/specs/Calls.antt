@@ -1,9 +1,10 @@
 -- Each call: one function from all its input to its refusal, and what it then leaves and gives (document 01, 'Who is turned away').
 -- "Numbers 1, 2, 3 come first, lowest first, then 13, 14, 15 in this order, then bids one by one (4, 5, 6), then capacities .. Then orders".
 use Rattle.std.specs.Prelude.{ℕ, zero, suc, ◌+◌, ◌*◌, ◌≡◌, Bool, cond, ◌&&◌, ◌||◌, List, map, ltb, eqb, length, get_or, take, drop, ℤ, pos, neg_ℤ}
-use Rattle.definitions.specs.Limits.{bid_limit, pool_limit, price_limit, quantity_limit, capacity_limit, cell_count, modulus, bid_numbers, pool_results}
+use Rattle.std.specs.Int.Signed.{le_z}
+use Rattle.definitions.specs.Limits.{bid_limit, pool_limit, whole_limit, hundredths_limit, price_limit, quantity_limit, capacity_limit, cell_count, modulus, bid_numbers, pool_results}
 use Rattle.definitions.specs.Arithmetic.{within, eq_z, reading}
-use Rattle.definitions.specs.Book.{Book, pool, price, quantity, capacity_entry}
+use Rattle.definitions.specs.Book.{Book, pool, whole_price, quantity, hundredths, in_hundredths, capacity_entry}
 use Rattle.definitions.specs.Sheet.{sealed_sheet, first_result, result_count}
 use Rattle.definitions.specs.Machine.{cell, run_of}
 use Rattle.definitions.specs.Bytes.{parse}
@@ -30,22 +31,29 @@ length_refusal asStated = cond asStated none (refuse 3 0)
 
 -- ---- A bidder
 
--- 4, 5, 6, "pool, price, quantity beyond its limits": the number, 0 for none
-abbrev pub bid_fault : ℕ → (pool price quantity : ℤ) → ℕ
-bid_fault m pool price quantity =
+-- "limit price −30,000 to 30,000"; "Hundredths out of range, or a price above 30,000.00, count as refusal 5."
+abbrev pub price_in_range : (whole hundredths : ℤ) → Bool
+price_in_range whole hundredths =
+    within (neg_ℤ (pos whole_limit)) (pos whole_limit) whole
+    && (within (pos 0) (pos hundredths_limit) hundredths && le_z (in_hundredths whole hundredths) (pos price_limit))
+
+-- 4, 5, 6, "pool, price, quantity beyond its limits": the number, 0 for none. A bid's numbers stand in the order of the table.
+abbrev pub bid_fault : ℕ → (pool whole quantity hundredths : ℤ) → ℕ
+bid_fault m pool whole quantity hundredths =
     cond (within (pos 1) (pos m) pool)
-    (cond (within (neg_ℤ (pos price_limit)) (pos price_limit) price)
+    (cond (price_in_range whole hundredths)
     (cond (within (neg_ℤ (pos quantity_limit)) (pos quantity_limit) quantity) 0 6)
     5)
     4
 
 -- "A single bid can also be judged alone, given m." "Place: the bid (0 if judged alone)."
-abbrev pub bid_refusal : ℕ → (pool price quantity : ℤ) → Refusal
-bid_refusal m pool price quantity = first (pools_refusal m) (numbered (bid_fault m pool price quantity) 0)
+abbrev pub bid_refusal : ℕ → (pool whole quantity hundredths : ℤ) → Refusal
+bid_refusal m pool whole quantity hundredths = first (pools_refusal m) (numbered (bid_fault m pool whole quantity hundredths) 0)
 
 -- "then bids one by one"
 unfoldable pub bids_refusal : Book → Refusal
-bids_refusal B = first_from 0 B.n (λ i. numbered (bid_fault B.m (pool B i) (price B i) (quantity B i)) (i + 1))
+bids_refusal B =
+    first_from 0 B.n (λ i. numbered (bid_fault B.m (pool B i) (whole_price B i) (quantity B i) (hundredths B i)) (i + 1))
 
 -- ---- A line owner
 
@@ -106,7 +114,7 @@ open_refusal n m sheet results =
     (first (length_refusal (eqb (length sheet) cell_count))
     (cells_refusal sheet))
 
--- "Opening copies the signed readings of all n + m × m + 2 × m result cells to a slice of that length."
+-- "Opening copies the signed readings of all .. result cells to a slice of that length": "n + m × m + 3 × m cells"
 unfoldable pub opened_results : (n m : ℕ) (sheet : List ℕ) → List ℤ
 opened_results n m sheet = map reading (take (result_count n m) (drop (first_result n m) sheet))
 
@@ -121,9 +129,13 @@ flow_place n m a b = n + (a * m + b)
 abbrev pub pool_place : (n m p : ℕ) → ℕ
 pool_place n m p = n + m * m + pool_results * p
 
+-- of its hundredths
+abbrev pub pool_hundredths_place : (n m p : ℕ) → ℕ
+pool_hundredths_place n m p = pool_place n m p + 1
+
 -- and of its presence
 abbrev pub presence_place : (n m p : ℕ) → ℕ
-presence_place n m p = pool_place n m p + 1
+presence_place n m p = pool_place n m p + 2
 
 -- the accepted amounts among them, and the flows
 abbrev pub amounts_of : (n : ℕ) (results : List ℤ) → List ℤ

@@ -38,14 +38,14 @@ pub record Feasible (B : Book) (c : Clearing) : Type 0 where
 abbrev pub value : Book → (ℕ → ℕ) → ℕ → ℤ
 value B accepted i = price B i *ℤ pos (accepted i)
 
--- "Its welfare is the sum of price × accepted over purchases less that over sales." Formula (1) of document 003.
+-- "Its welfare is the sum of price × accepted over purchases less that over sales." Formula (1) of document 003. "welfare is in hundredths".
 unfoldable pub welfare : Book → (ℕ → ℕ) → ℤ
 welfare B accepted =
     sum_z B.n (λ i. cond (purchase B i) (value B accepted i) (pos 0))
     -ℤ sum_z B.n (λ i. cond (sale B i) (value B accepted i) (pos 0))
 
 -- Bid j comes before bid i. "Merit order: lower limit price first; at equal price sales before purchases;
--- equal sales by lower bid number; equal purchases by higher bid number."
+-- equal sales by lower bid number; equal purchases by higher bid number." "Prices are equal only if both parts are": a theorem, `equal_prices`.
 unfoldable pub before : Book → (j i : ℕ) → Bool
 before B j i =
     lt_z (price B j) (price B i)

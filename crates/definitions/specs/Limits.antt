@@ -1,4 +1,4 @@
--- The limits of the unit, together (document 01, 'Tables and sealing').
+-- The limits of the unit, together (document 01, 'Tables and sealing', and document 02, request 5).
 use Rattle.std.specs.Prelude.{ℕ}
 
 -- "n is the bid count, 0 to 64"
@@ -9,9 +9,21 @@ bid_limit = 64
 abbrev pub pool_limit : ℕ
 pool_limit = 4
 
--- "limit price −30,000 to 30,000"
+-- "limit price −30,000 to 30,000": of its whole part
+abbrev pub whole_limit : ℕ
+whole_limit = 30000
+
+-- "hundredths, 0 to 99"
+abbrev pub hundredths_limit : ℕ
+hundredths_limit = 99
+
+-- how many hundredths make one
+abbrev pub hundred : ℕ
+hundred = 100
+
+-- "a price above 30,000.00": in hundredths
 abbrev pub price_limit : ℕ
-price_limit = 30000
+price_limit = 3000000
 
 -- "quantity −65,535 to 65,535"
 abbrev pub quantity_limit : ℕ
@@ -33,17 +45,20 @@ modulus = 2147483647
 abbrev pub greatest_positive : ℕ
 greatest_positive = 1073741823
 
--- "A bid is three signed 32-bit numbers"
+-- "A bid is three signed 32-bit numbers" in document 01; in document 02 "A bid gains a fourth and last number"
 abbrev pub bid_numbers : ℕ
-bid_numbers = 3
+bid_numbers = 4
 
--- "pool .., limit price .., quantity": the places of the last two; the pool comes first
+-- "pool .., limit price .., quantity", and "last" the hundredths: the places of the last three; the pool comes first
 abbrev pub price_place : ℕ
 price_place = 1
 
 abbrev pub quantity_place : ℕ
 quantity_place = 2
 
--- "for each pool two cells, its price and a presence cell"
+abbrev pub hundredths_place : ℕ
+hundredths_place = 3
+
+-- "for each pool two cells, its price and a presence cell"; now "a pool's result takes three (price, hundredths, presence ..)"
 abbrev pub pool_results : ℕ
-pool_results = 2
+pool_results = 3

@@ -3,9 +3,9 @@ use Rattle.std.specs.Prelude.{ℕ, ◌+◌, ◌*◌, ◌^◌, ◌≤◌, ◌<◌
 use Rattle.definitions.specs.Limits.{cell_count}
 use Rattle.definitions.specs.Arithmetic.{join_to}
 use Rattle.definitions.specs.Book.{Book}
-use Rattle.definitions.specs.Sheet.{sealed_sheet, first_result, amount_cell, flow_cell, price_cell, presence_cell, first_scratch}
+use Rattle.definitions.specs.Sheet.{sealed_sheet, first_result, amount_cell, flow_cell, price_cell, hundredths_cell, presence_cell, first_scratch}
 use Rattle.definitions.specs.Clearing.{Clearing, Best, Permitted, welfare}
-use Rattle.definitions.specs.PoolPrice.{PoolPrice, missing, present, pool_price, price_residue, presence}
+use Rattle.definitions.specs.PoolPrice.{PoolPrice, missing, present, pool_price, price_residue, hundredths_residue, presence}
 use Rattle.definitions.specs.Machine.{cell, run_of}
 use Rattle.definitions.specs.Answers.{unless}
 use Rattle.definitions.specs.Calls.{seal_refusal}
@@ -26,25 +26,25 @@ pub record Outcome (B : Book) (s : List ℕ) : Type 0 where
   pub best : Best B (result_of B s)
   pub permitted : Permitted B (result_of B s)
   pub prices : (p : ℕ) → p < B.m → cell s (price_cell B.n B.m p) ≡ price_residue (pool_price B (result_of B s) p)
+  pub hundredths : (p : ℕ) → p < B.m → cell s (hundredths_cell B.n B.m p) ≡ hundredths_residue (pool_price B (result_of B s) p)
   pub presences : (p : ℕ) → p < B.m → cell s (presence_cell B.n B.m p) ≡ presence (pool_price B (result_of B s) p)
   pub scratch : (c : ℕ) → first_scratch B.n B.m ≤ c → cell s c ≡ 0
 
--- a pool's two results as they are opened, its price and its presence; "with none, both cells are 0"
+-- a pool's three results as they are opened, "(price, hundredths, presence; all 0 if missing)"
 abbrev pub price_numbers : PoolPrice → List ℤ
-price_numbers missing = pos 0 ∷ pos 0 ∷ []
-price_numbers (present z) = z ∷ pos 1 ∷ []
+price_numbers missing = pos 0 ∷ pos 0 ∷ pos 0 ∷ []
+price_numbers (present w h) = w ∷ h ∷ pos 1 ∷ []
 
--- the results of a clearing as they are opened: "n accepted amounts, m × m flows by rows, then for each pool two cells, its price and a
--- presence cell"
+-- the results of a clearing as they are opened: "n accepted amounts, m × m flows by rows, then for each pool" its three
 unfoldable pub clearing_results : Book → Clearing → List ℤ
 clearing_results B c =
     join_to B.n (λ i. pos (c.accepted i) ∷ [])
     ++ (join_to B.m (λ a. join_to B.m (λ b. pos (c.flow a b) ∷ []))
     ++ join_to B.m (λ p. price_numbers (pool_price B c p)))
 
--- demand 3: "at most n × (100 × n + 40 × (m+1)^6) + 10,000"
+-- demand 3: "at most n × (100 × n + 40 × (m+1)^6) + 10,000"; "In the order limit 100 × n becomes 200 × n."
 abbrev pub order_limit : (n m : ℕ) → ℕ
-order_limit n m = n * (100 * n + 40 * (m + 1) ^ 6) + 10000
+order_limit n m = n * (200 * n + 40 * (m + 1) ^ 6) + 10000
 
 -- ---- Clearing: "it seals, runs the plan, and gives the count of orders and the welfare"
 

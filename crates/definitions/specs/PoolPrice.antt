@@ -2,7 +2,7 @@
 use Rattle.std.specs.Prelude.{ℕ, zero, suc, Bool, cond, ◌&&◌, ◌||◌, ltb, eqb, ℤ}
 use Rattle.std.specs.Int.Signed.{lt_z}
 use Rattle.definitions.specs.Arithmetic.{any_to, residue}
-use Rattle.definitions.specs.Book.{Book, price, size, in_pool, capacity}
+use Rattle.definitions.specs.Book.{Book, whole_price, hundredths, in_hundredths, size, in_pool, capacity}
 use Rattle.definitions.specs.Clearing.{Clearing, used}
 
 -- "one step goes from a to b where line a to b is not full or line b to a carries something"
@@ -22,32 +22,38 @@ reaches B flow q p = reaches_over B flow B.m q p
 abbrev pub supplies : Book → Clearing → (p i : ℕ) → Bool
 supplies B c p i = ltb (used B c.accepted i) (size B i) && any_to B.m (λ q. in_pool B q i && reaches B c.flow q p)
 
--- A pool's price, or that it has none
+-- A pool's price in its two parts (request 5), or that it has none
 pub data PoolPrice : Type 0 where
   missing : PoolPrice
-  present : ℤ → PoolPrice
+  present : (whole hundredths : ℤ) → PoolPrice
 
 -- the lower of a price, if there is one, and another
-abbrev pub lower_price : PoolPrice → ℤ → PoolPrice
-lower_price missing z = present z
-lower_price (present y) z = present (cond (lt_z z y) z y)
+abbrev pub lower_price : PoolPrice → (whole hundredths : ℤ) → PoolPrice
+lower_price missing w h = present w h
+lower_price (present v g) w h = cond (lt_z (in_hundredths w h) (in_hundredths v g)) (present w h) (present v g)
 
 -- the least limit price among the first k bids that pass a test
 unfoldable pub least_price : Book → (ℕ → Bool) → (k : ℕ) → PoolPrice
 least_price B test zero = missing
-least_price B test (suc k) = cond (test k) (lower_price (least_price B test k) (price B k)) (least_price B test k)
+least_price B test (suc k) =
+    cond (test k) (lower_price (least_price B test k) (whole_price B k) (hundredths B k)) (least_price B test k)
 
 -- "It is the least limit price among bids with used amount below their size, in a pool from which the pool in question can be reached .. With no
 -- such bid the price is missing."
 unfoldable pub pool_price : Book → Clearing → (p : ℕ) → PoolPrice
 pool_price B c p = least_price B (supplies B c p) B.n
 
--- its price cell; "both cells are 0" where it is missing
+-- its three cells, "(price, hundredths, presence; all 0 if missing)": the whole part of the price
 abbrev pub price_residue : PoolPrice → ℕ
 price_residue missing = 0
-price_residue (present z) = residue z
+price_residue (present w h) = residue w
+
+-- its hundredths
+abbrev pub hundredths_residue : PoolPrice → ℕ
+hundredths_residue missing = 0
+hundredths_residue (present w h) = residue h
 
 -- "a presence cell (1 present, 0 missing)"
 abbrev pub presence : PoolPrice → ℕ
 presence missing = 0
-presence (present z) = 1
+presence (present w h) = 1

@@ -1,11 +1,12 @@
--- The program settle: the text that it reads and the text that it prints (document 01, 'Proved examples', "Program settle").
+-- The program settle: the text that it reads and the text that it prints (document 01, 'Proved examples', "Program settle", and document 02,
+-- request 5).
 use Rattle.std.specs.Prelude.{ℕ, zero, suc, ◌+◌, ◌-◌, ◌*◌, ◌/◌, ◌%◌, Bool, true, false, cond, ◌&&◌, ◌||◌, List, [], ◌∷◌, ◌++◌, ltb, eqb, leb, length, take, drop, ℤ, pos, negsuc, neg_ℤ}
 use Rattle.std.specs.Int.Signed.{lt_z}
 use Rattle.definitions.specs.Limits.{cell_count, bid_numbers}
 use Rattle.definitions.specs.Arithmetic.{join_to, within}
-use Rattle.definitions.specs.Book.{Book, book}
+use Rattle.definitions.specs.Book.{Book, book, in_hundredths}
 use Rattle.definitions.specs.Answers.{Refusal, none, refuse, number_of, place_of}
-use Rattle.definitions.specs.Calls.{counts_refusal, seal_refusal, opened_results, result_at, flow_place, pool_place, presence_place}
+use Rattle.definitions.specs.Calls.{counts_refusal, seal_refusal, opened_results, result_at, flow_place, pool_place, pool_hundredths_place, presence_place}
 use Rattle.definitions.specs.Plan.{Plan}
 use Rattle.definitions.specs.Outcome.{plan_run, clear_welfare}
 
@@ -81,7 +82,7 @@ pub data Input : Type 0 where
   refused : Refusal → Input
   readable : Book → Input
 
--- "then bids, then capacity rows", exactly as many numbers as called for
+-- "then bids, then capacity rows", exactly as many numbers as called for; "Settle reads four numbers a bid"
 abbrev pub tables : (n m : ℕ) → Numbers → Input
 tables n m no_numbers = unreadable
 tables n m (numbers zs) =
@@ -183,15 +184,16 @@ flow_line from to flow =
     (line_word ++ (space ++ (decimal from ++ (space ++ (decimal to ++ (space ++ (decimal_z flow ++ newline)))))))
     []
 
--- a price, `none` if it is missing
-abbrev pub price_text : (price presence : ℤ) → List ℕ
-price_text price presence = cond (lt_z (pos 0) presence) (decimal_z price) none_word
+-- a price "as whole hundredths", `none` if it is missing
+abbrev pub price_text : (price hundredths presence : ℤ) → List ℕ
+price_text price hundredths presence = cond (lt_z (pos 0) presence) (decimal_z (in_hundredths price hundredths)) none_word
 
 -- "pool, price"
-unfoldable pub price_line : (pool : ℕ) (price presence : ℤ) → List ℕ
-price_line pool price presence = price_word ++ (space ++ (decimal pool ++ (space ++ (price_text price presence ++ newline))))
+unfoldable pub price_line : (pool : ℕ) (price hundredths presence : ℤ) → List ℕ
+price_line pool price hundredths presence =
+    price_word ++ (space ++ (decimal pool ++ (space ++ (price_text price hundredths presence ++ newline))))
 
--- the last line
+-- the last line, the welfare "as whole hundredths"
 unfoldable pub welfare_line : ℤ → List ℕ
 welfare_line w = welfare_word ++ (space ++ (decimal_z w ++ newline))
 
@@ -206,7 +208,9 @@ flow_lines n m results = join_to m (λ a. join_to m (λ b. flow_line (a + 1) (b 
 -- the lines of all pools
 unfoldable pub price_lines : (n m : ℕ) → List ℤ → List ℕ
 price_lines n m results =
-    join_to m (λ p. price_line (p + 1) (result_at results (pool_place n m p)) (result_at results (presence_place n m p)))
+    join_to m
+    (λ p. price_line (p + 1) (result_at results (pool_place n m p)) (result_at results (pool_hundredths_place n m p))
+    (result_at results (presence_place n m p)))
 
 -- the text printed for a cleared book, as for example 2
 unfoldable pub listing : (n m : ℕ) (results : List ℤ) (w : ℤ) → List ℕ

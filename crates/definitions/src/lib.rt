@@ -19,7 +19,15 @@ impl Limits {
 
     pub const POOLS: usize = 4;
 
-    pub const PRICE: i32 = 30_000;
+    // Of the whole part of a price, and of its hundredths.
+    pub const WHOLE: i32 = 30_000;
+
+    pub const HUNDREDTHS: i32 = 99;
+
+    pub const HUNDRED: i32 = 100;
+
+    // Of a price in hundredths.
+    pub const PRICE: i32 = 3_000_000;
 
     pub const QUANTITY: i32 = 65_535;
 
@@ -33,15 +41,17 @@ impl Limits {
     // The greatest residue that reads as itself.
     pub const POSITIVE: u32 = 1_073_741_823;
 
-    // How many numbers a bid has: its pool, its price and its quantity; the places of the last two.
-    pub const BID_NUMBERS: usize = 3;
+    // How many numbers a bid has: its pool, its price, its quantity and its hundredths; the places of the last three.
+    pub const BID_NUMBERS: usize = 4;
 
     pub const PRICE_PLACE: usize = 1;
 
     pub const QUANTITY_PLACE: usize = 2;
 
-    // How many results a pool has: its price and its presence.
-    pub const POOL_RESULTS: usize = 2;
+    pub const HUNDREDTHS_PLACE: usize = 3;
+
+    // How many results a pool has: its price, its hundredths and its presence.
+    pub const POOL_RESULTS: usize = 3;
 }
 
 // An order of the machine: its target cell d, then a constant or the two cells that it reads. Document 01 names this form.
@@ -196,7 +206,7 @@ impl From<Order> for Parts {
     }
 }
 
-// A book as its tables are lent: n, m, three numbers for each bid, and the capacities by rows.
+// A book as its tables are lent: n, m, four numbers for each bid, and the capacities by rows.
 #[derive(Clone, Copy)]
 pub struct LentBook<'a> {
     pub n: usize,

@@ -1,16 +1,16 @@
 -- What acceptance says of a book: its counts, its tables' lengths and its numbers as natural numbers (`accepted_sound`); it says no more
 -- (`sound_accepted`), and there is an accepted book for every n to the bid limit and every m from 1 to the pool limit (`books_exist`).
 use Rattle.std.specs.Prelude.{ℕ, zero, suc, ◌+◌, ◌-◌, ◌*◌, ◌≤◌, ◌<◌, ◌≡◌, refl, Bool, true, false, cond, ◌&&◌, List, [], ◌∷◌, leb, length, get_or, replicate, ℤ, pos, negsuc, neg_ℤ, nat_abs, ◌+ℤ◌, eqb}
-use Rattle.std.proofs.Common.{sym, ◌∙◌, true≢false, arith, eq-eqb, eqb-true, ne_eqb, le-ltb, leb-true, le-leb, ap}
+use Rattle.std.proofs.Common.{sym, ◌∙◌, subst, true≢false, arith, eq-eqb, eqb-true, ne_eqb, le-ltb, leb-true, le-leb, ap}
 use Rattle.std.proofs.Math.Dec.{eqb-suc-suc}
 use Rattle.std.proofs.lemmas.List.{length-replicate, get_or-replicate}
 use Rattle.std.proofs.Math.ListN.{get_or-eq_default}
 use Rattle.std.specs.Int.Signed.{le_z}
-use Rattle.definitions.specs.Limits.{bid_limit, pool_limit, price_limit, quantity_limit, capacity_limit, cell_count, bid_numbers, price_place, quantity_place}
+use Rattle.definitions.specs.Limits.{bid_limit, pool_limit, whole_limit, hundredths_limit, hundred, price_limit, quantity_limit, capacity_limit, cell_count, bid_numbers, price_place, quantity_place, hundredths_place}
 use Rattle.definitions.specs.Arithmetic.{within, eq_z}
-use Rattle.definitions.specs.Book.{Book, book, pool, price, quantity, size, in_pool, capacity_entry, capacity}
+use Rattle.definitions.specs.Book.{Book, book, pool, whole_price, hundredths, in_hundredths, price, quantity, size, in_pool, capacity_entry, capacity}
 use Rattle.definitions.specs.Answers.{none, first, numbered}
-use Rattle.definitions.specs.Calls.{AcceptedBook, seal_refusal, counts_refusal, length_refusal, tables_right, bids_refusal, bid_fault, capacities_refusal, row_refusal, entry_refusal, capacity_fault}
+use Rattle.definitions.specs.Calls.{AcceptedBook, seal_refusal, counts_refusal, length_refusal, tables_right, bids_refusal, price_in_range, bid_fault, capacities_refusal, row_refusal, entry_refusal, capacity_fault}
 use Rattle.std.specs.Cmp.{first_so, second_so}
 use Rattle.laws.specs.Tests.{Lt?, less, more, lt?}
 use Rattle.laws.specs.SignedTests.{eq_z_true}
@@ -21,9 +21,17 @@ use Rattle.laws.specs.Sizes.{Sizes, accepted_sizes}
 abbrev pub pool_index : Book → ℕ → ℕ
 pool_index B i = nat_abs (pool B i) - 1
 
--- the limit price of bid i, raised so that none is negative
+-- the whole part of its limit price, raised so that none is negative
+abbrev pub raised_whole : Book → ℕ → ℕ
+raised_whole B i = nat_abs (whole_price B i +ℤ pos whole_limit)
+
+-- its hundredths
+abbrev pub hundredths_part : Book → ℕ → ℕ
+hundredths_part B i = nat_abs (hundredths B i)
+
+-- its limit price in hundredths, raised by the limit
 abbrev pub raised_price : Book → ℕ → ℕ
-raised_price B i = nat_abs (price B i +ℤ pos price_limit)
+raised_price B i = hundred * raised_whole B i + hundredths_part B i
 
 -- the counts, lengths and numbers of book B are within their limits
 pub record Sound (B : Book) : Type 0 where
@@ -34,7 +42,11 @@ pub record Sound (B : Book) : Type 0 where
   pub capacity_table : length B.capacities ≡ B.m * B.m
   pub pool_is : (i : ℕ) → i < B.n → pool B i ≡ pos (suc (pool_index B i))
   pub pool_index_lem : (i : ℕ) → i < B.n → pool_index B i < B.m
-  pub price_is : (i : ℕ) → i < B.n → price B i +ℤ pos price_limit ≡ pos (raised_price B i)
+  pub whole_is : (i : ℕ) → i < B.n → whole_price B i +ℤ pos whole_limit ≡ pos (raised_whole B i)
+  pub whole_small : (i : ℕ) → i < B.n → raised_whole B i ≤ 2 * whole_limit
+  pub whole_size : (i : ℕ) → i < B.n → nat_abs (whole_price B i) ≤ whole_limit
+  pub hundredths_is : (i : ℕ) → i < B.n → hundredths B i ≡ pos (hundredths_part B i)
+  pub hundredths_small : (i : ℕ) → i < B.n → hundredths_part B i ≤ hundredths_limit
   pub price_small : (i : ℕ) → i < B.n → raised_price B i ≤ 2 * price_limit
   pub price_size : (i : ℕ) → i < B.n → nat_abs (price B i) ≤ price_limit
   pub size_small : (i : ℕ) → i < B.n → size B i ≤ quantity_limit
@@ -82,29 +94,86 @@ from_zero k (negsuc a) e = absurd (true≢false (sym e))
 pub within_from_zero : (k v : ℕ) (z : ℤ) → z ≡ pos v → v ≤ k → within (pos 0) (pos k) z ≡ true
 within_from_zero k v z e h = rw (e, le-leb 0 v (omega arith)) (le-leb v k h)
 
+-- ---- a price in two parts
+
+-- of a negative whole part: the hundredths are added, so they take off its size
+below_zero : (v k : ℕ) → k ≤ hundredths_limit → in_hundredths (negsuc v) (pos k) ≡ negsuc (hundred * v + (hundredths_limit - k))
+below_zero v k l =
+    let e : suc v * hundred ≡ suc (hundredths_limit + v * hundred) = omega arith in
+    ap (λ (x : ℕ). neg_ℤ (pos x) +ℤ pos k) e ∙ go (lt? k (suc (hundredths_limit + v * hundred)))
+  where
+    go : {t : Bool} → Lt? k (suc (hundredths_limit + v * hundred)) t
+        → cond t (negsuc (suc (hundredths_limit + v * hundred) - suc k)) (pos (k - suc (hundredths_limit + v * hundred)))
+        ≡ negsuc (hundred * v + (hundredths_limit - k))
+    go (less h) = ap negsuc (omega arith)
+    go (more h) = absurd (omega arith)
+
+record SoundPrice (whole hundredths : ℤ) : Type 0 where
+  whole_sized : nat_abs whole ≤ whole_limit
+  hundredths_are : hundredths ≡ pos (nat_abs hundredths)
+  hundredths_sized : nat_abs hundredths ≤ hundredths_limit
+  price_sized : nat_abs (in_hundredths whole hundredths) ≤ price_limit
+  raised_sized : hundred * nat_abs (whole +ℤ pos whole_limit) + nat_abs hundredths ≤ 2 * price_limit
+
+-- the sizes of a price from those of its parts
+sizes_of_price : (y : ℤ) (k : ℕ) → nat_abs y ≤ whole_limit → k ≤ hundredths_limit → le_z (in_hundredths y (pos k)) (pos price_limit) ≡ true
+    → (nat_abs (in_hundredths y (pos k)) ≤ price_limit) × (hundred * nat_abs (y +ℤ pos whole_limit) + k ≤ 2 * price_limit)
+sizes_of_price (pos a) k p q e = let h : a * hundred + k ≤ price_limit = leb-true _ _ e in (h, omega arith)
+sizes_of_price (negsuc v) k p q e = (rw (below_zero v k q) (omega arith), omega (arith, go (lt? whole_limit (suc v))))
+  where
+    go : {t : Bool} → Lt? whole_limit (suc v) t → nat_abs (cond t (negsuc (suc v - suc whole_limit)) (pos (whole_limit - suc v))) ≡ whole_limit - suc v
+    go (less l) = absurd (omega arith)
+    go (more l) = refl
+
+sound_price : (y h : ℤ) → price_in_range y h ≡ true → SoundPrice y h
+sound_price y h e =
+    let range = within (neg_ℤ (pos whole_limit)) (pos whole_limit) y in
+    let both = second_so range _ e in
+    let whole : nat_abs y ≤ whole_limit = in_size whole_limit y (first_so range _ e) in
+    let part = from_zero hundredths_limit h (first_so (within (pos 0) (pos hundredths_limit) h) _ both) in
+    let upper : le_z (in_hundredths y (pos (nat_abs h))) (pos price_limit) ≡ true =
+    ap (λ (z : ℤ). le_z (in_hundredths y z) (pos price_limit)) (sym part.0) ∙ second_so (within (pos 0) (pos hundredths_limit) h) _ both in
+    let sizes = sizes_of_price y (nat_abs h) whole part.1 upper in
+    record {
+      whole_sized = whole;
+      hundredths_are = part.0;
+      hundredths_sized = part.1;
+      price_sized = subst (λ (z : ℤ). nat_abs (in_hundredths y z) ≤ price_limit) (sym part.0) sizes.0;
+      raised_sized = sizes.1;
+    }
+
+price_passes : (y h : ℤ) (k : ℕ) → nat_abs y ≤ whole_limit → h ≡ pos k → k ≤ hundredths_limit → nat_abs (in_hundredths y h) ≤ price_limit → price_in_range y h ≡ true
+price_passes y h k p e q r =
+    both (size_in whole_limit y p)
+    (both (within_from_zero hundredths_limit k h e q)
+    (second_so (le_z (neg_ℤ (pos price_limit)) (in_hundredths y h)) _ (size_in price_limit (in_hundredths y h) r)))
+  where
+    both : {s t : Bool} → s ≡ true → t ≡ true → (s && t) ≡ true
+    both a b = rw (a, b) refl
+
 -- ---- one bid, one entry
 
-record SoundBid (m : ℕ) (pool price quantity : ℤ) : Type 0 where
+record SoundBid (m : ℕ) (pool whole quantity hundredths : ℤ) : Type 0 where
   in_range : within (pos 1) (pos m) pool ≡ true
-  priced : nat_abs price ≤ price_limit
+  priced : SoundPrice whole hundredths
   sized : nat_abs quantity ≤ quantity_limit
 
-sound_bid : (m : ℕ) (x y z : ℤ) → bid_fault m x y z ≡ 0 → SoundBid m x y z
-sound_bid m x y z = go _ _ _ refl refl refl
+sound_bid : (m : ℕ) (x y z h : ℤ) → bid_fault m x y z h ≡ 0 → SoundBid m x y z h
+sound_bid m x y z h = go _ _ _ refl refl refl
   where
     go : (s t u : Bool) → within (pos 1) (pos m) x ≡ s
-        → within (neg_ℤ (pos price_limit)) (pos price_limit) y ≡ t
+        → price_in_range y h ≡ t
         → within (neg_ℤ (pos quantity_limit)) (pos quantity_limit) z ≡ u
-        → ◌≡◌ {A = ℕ} (cond s (cond t (cond u 0 6) 5) 4) 0 → SoundBid m x y z
-    go true true true p q r e = record { in_range = p; priced = in_size price_limit y q; sized = in_size quantity_limit z r }
+        → ◌≡◌ {A = ℕ} (cond s (cond t (cond u 0 6) 5) 4) 0 → SoundBid m x y z h
+    go true true true p q r e = record { in_range = p; priced = sound_price y h q; sized = in_size quantity_limit z r }
     go true true false p q r e = absurd (omega arith)
     go true false u p q r e = absurd (omega arith)
     go false t u p q r e = absurd (omega arith)
 
-bid_passes : (m k : ℕ) (x y z : ℤ) → x ≡ pos (suc k) → k < m → nat_abs y ≤ price_limit → nat_abs z ≤ quantity_limit → bid_fault m x y z ≡ 0
-bid_passes m k x y z e l p q =
+bid_passes : (m k : ℕ) (x y z h : ℤ) → x ≡ pos (suc k) → k < m → price_in_range y h ≡ true → nat_abs z ≤ quantity_limit → bid_fault m x y z h ≡ 0
+bid_passes m k x y z h e l p q =
     rw e
-    (rw (le-leb 1 (suc k) (omega arith), le-leb (suc k) m l, size_in price_limit y p, size_in quantity_limit z q) refl)
+    (rw (le-leb 1 (suc k) (omega arith), le-leb (suc k) m l, p, size_in quantity_limit z q) refl)
 
 sound_entry : (diagonal : Bool) (z : ℤ) → capacity_fault diagonal z ≡ 0 → (z ≡ pos (nat_abs z)) × (nat_abs z ≤ capacity_limit) × (diagonal ≡ true → nat_abs z ≡ 0)
 sound_entry true z = go (eq_z z (pos 0)) refl
@@ -133,12 +202,15 @@ module _ (B : Book) (accepted : AcceptedBook B) where
       first_right (length_refusal (tables_right B && eqb cell_count cell_count)) (first (bids_refusal B) (capacities_refusal B))
       (first_right (counts_refusal B.n B.m) (first (length_refusal (tables_right B && eqb cell_count cell_count)) (first (bids_refusal B) (capacities_refusal B))) accepted)
 
-  right_bid : (i : ℕ) → i < B.n → SoundBid B.m (pool B i) (price B i) (quantity B i)
+  -- the fault of bid i, 0 for none
+  abbrev fault : ℕ → ℕ
+  fault i = bid_fault B.m (pool B i) (whole_price B i) (quantity B i) (hundredths B i)
+
+  right_bid : (i : ℕ) → i < B.n → SoundBid B.m (pool B i) (whole_price B i) (quantity B i) (hundredths B i)
   unfolding bids_refusal
   right_bid i l =
-      sound_bid B.m (pool B i) (price B i) (quantity B i)
-      (numbered_zero (bid_fault B.m (pool B i) (price B i) (quantity B i)) (i + 1)
-      (all_none B.n (λ i. numbered (bid_fault B.m (pool B i) (price B i) (quantity B i)) (i + 1)) (first_left (bids_refusal B) (capacities_refusal B) tables) i l))
+      sound_bid B.m (pool B i) (whole_price B i) (quantity B i) (hundredths B i)
+      (numbered_zero (fault i) (i + 1) (all_none B.n (λ i. numbered (fault i) (i + 1)) (first_left (bids_refusal B) (capacities_refusal B) tables) i l))
 
   right_entry : (a b : ℕ) → a < B.m → b < B.m → capacity_fault (eqb a b) (capacity_entry B a b) ≡ 0
   unfolding capacities_refusal row_refusal
@@ -156,9 +228,13 @@ module _ (B : Book) (accepted : AcceptedBook B) where
     capacity_table = sizes.lengths.capacity_table;
     pool_is = λ i l. (in_pools B.m (pool B i) (right_bid i l).in_range).0;
     pool_index_lem = λ i l. (in_pools B.m (pool B i) (right_bid i l).in_range).1;
-    price_is = λ i l. (raised price_limit (price B i) (right_bid i l).priced).0;
-    price_small = λ i l. (raised price_limit (price B i) (right_bid i l).priced).1;
-    price_size = λ i l. (right_bid i l).priced;
+    whole_is = λ i l. (raised whole_limit (whole_price B i) (right_bid i l).priced.whole_sized).0;
+    whole_small = λ i l. (raised whole_limit (whole_price B i) (right_bid i l).priced.whole_sized).1;
+    whole_size = λ i l. (right_bid i l).priced.whole_sized;
+    hundredths_is = λ i l. (right_bid i l).priced.hundredths_are;
+    hundredths_small = λ i l. (right_bid i l).priced.hundredths_sized;
+    price_small = λ i l. (right_bid i l).priced.raised_sized;
+    price_size = λ i l. (right_bid i l).priced.price_sized;
     size_small = λ i l. (right_bid i l).sized;
     capacity_is = λ a b l r. (sound_entry (eqb a b) (capacity_entry B a b) (right_entry a b l r)).0;
     capacity_small = λ a b l r. (sound_entry (eqb a b) (capacity_entry B a b) (right_entry a b l r)).1;
@@ -180,13 +256,17 @@ module _ (B : Book) (ok : Sound B) where
   lengths_pass : length_refusal (tables_right B && eqb cell_count cell_count) ≡ none
   lengths_pass = rw (eq-eqb _ _ ok.bid_table, eq-eqb _ _ ok.capacity_table) refl
 
+  price_pass : (i : ℕ) → i < B.n → price_in_range (whole_price B i) (hundredths B i) ≡ true
+  price_pass i l =
+      price_passes (whole_price B i) (hundredths B i) (hundredths_part B i) (ok.whole_size i l) (ok.hundredths_is i l) (ok.hundredths_small i l) (ok.price_size i l)
+
   bids_pass : bids_refusal B ≡ none
   unfolding bids_refusal
   bids_pass =
       none_all B.n _
       (λ i l.
       ap (λ (k : ℕ). numbered k (i + 1))
-      (bid_passes B.m (pool_index B i) (pool B i) (price B i) (quantity B i) (ok.pool_is i l) (ok.pool_index_lem i l) (ok.price_size i l) (ok.size_small i l)))
+      (bid_passes B.m (pool_index B i) (pool B i) (whole_price B i) (quantity B i) (hundredths B i) (ok.pool_is i l) (ok.pool_index_lem i l) (price_pass i l) (ok.size_small i l)))
 
   entry_pass : (a b : ℕ) → a < B.m → b < B.m → entry_refusal B a b ≡ none
   entry_pass a b l r =
@@ -206,10 +286,10 @@ module _ (B : Book) (ok : Sound B) where
 
 -- ---- a book for all counts
 
--- n times the bid (1,0,1)
+-- n times the bid (1,0,1) with hundredths of 0
 unfoldable pub bids_of : ℕ → List ℤ
 bids_of zero = []
-bids_of (suc n) = pos 1 ∷ pos 0 ∷ pos 1 ∷ bids_of n
+bids_of (suc n) = pos 1 ∷ pos 0 ∷ pos 1 ∷ pos 0 ∷ bids_of n
 
 -- m pools with no line, and n such bids
 unfoldable pub book_of : (n m : ℕ) → Book
@@ -225,15 +305,17 @@ numbers_of_lem : (n i : ℕ) → i < n
     → (get_or (bids_of n) (bid_numbers * i) (pos 0) ≡ pos 1)
     × (get_or (bids_of n) (bid_numbers * i + price_place) (pos 0) ≡ pos 0)
     × (get_or (bids_of n) (bid_numbers * i + quantity_place) (pos 0) ≡ pos 1)
+    × (get_or (bids_of n) (bid_numbers * i + hundredths_place) (pos 0) ≡ pos 0)
 unfolding bids_of
 numbers_of_lem zero i l = absurd (omega arith)
-numbers_of_lem (suc n) zero l = (refl, refl, refl)
+numbers_of_lem (suc n) zero l = (refl, refl, refl, refl)
 numbers_of_lem (suc n) (suc i) l =
     let rest = numbers_of_lem n i (omega arith) in
-    let first : bid_numbers * suc i ≡ suc (suc (suc (bid_numbers * i))) = omega arith in
-    let second : bid_numbers * suc i + price_place ≡ suc (suc (suc (bid_numbers * i + price_place))) = omega arith in
-    let third : bid_numbers * suc i + quantity_place ≡ suc (suc (suc (bid_numbers * i + quantity_place))) = omega arith in
-    (rw first rest.0, rw second rest.1, rw third rest.2)
+    let first : bid_numbers * suc i ≡ suc (suc (suc (suc (bid_numbers * i)))) = omega arith in
+    let second : bid_numbers * suc i + price_place ≡ suc (suc (suc (suc (bid_numbers * i + price_place)))) = omega arith in
+    let third : bid_numbers * suc i + quantity_place ≡ suc (suc (suc (suc (bid_numbers * i + quantity_place)))) = omega arith in
+    let fourth : bid_numbers * suc i + hundredths_place ≡ suc (suc (suc (suc (bid_numbers * i + hundredths_place)))) = omega arith in
+    (rw first rest.0, rw second rest.1, rw third rest.2, rw fourth rest.3)
 
 books_sound : (n m : ℕ) → n ≤ bid_limit → 0 < m → m ≤ pool_limit → Sound (book_of n m)
 unfolding book_of
@@ -245,9 +327,13 @@ books_sound n m bids positive pools = record {
   capacity_table = length-replicate (m * m) (pos 0);
   pool_is = λ i l. rw (numbers_of_lem n i l).0 refl;
   pool_index_lem = λ i l. rw (numbers_of_lem n i l).0 positive;
-  price_is = λ i l. rw (numbers_of_lem n i l).1 refl;
-  price_small = λ i l. rw (numbers_of_lem n i l).1 (omega arith);
-  price_size = λ i l. rw (numbers_of_lem n i l).1 (omega arith);
+  whole_is = λ i l. rw (numbers_of_lem n i l).1 refl;
+  whole_small = λ i l. rw (numbers_of_lem n i l).1 (omega arith);
+  whole_size = λ i l. rw (numbers_of_lem n i l).1 (omega arith);
+  hundredths_is = λ i l. rw (numbers_of_lem n i l).3 refl;
+  hundredths_small = λ i l. rw (numbers_of_lem n i l).3 (omega arith);
+  price_small = λ i l. rw ((numbers_of_lem n i l).1, (numbers_of_lem n i l).3) (omega arith);
+  price_size = λ i l. rw ((numbers_of_lem n i l).1, (numbers_of_lem n i l).3) (omega arith);
   size_small = λ i l. rw (numbers_of_lem n i l).2 (omega arith);
   capacity_is = λ a b l r. rw (no_line a b) refl;
   capacity_small = λ a b l r. rw (no_line a b) (omega arith);

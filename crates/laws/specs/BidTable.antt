@@ -1,11 +1,11 @@
--- The bid table read as bids, each a chunk of its numbers: the pool, the price and the quantity of bid i are those that the table holds for it. The
--- prover hands each over as read back from its bits.
+-- The bid table read as bids, each a chunk of its numbers: each number of bid i is the one that the table holds for it. The prover hands it over as
+-- read back from its bits.
 use Rattle.std.specs.Prelude.{ℕ, ◌+◌, ◌*◌, ◌/◌, ◌<◌, ◌^◌, ◌≡◌, List, [], ℤ, pos, length, get_or}
 use Rattle.std.proofs.Common.{ap, ◌∙◌, arith, w32, to_z, of_z}
 use Rattle.std.specs.Int.Signed.{mag}
 use Rattle.std.specs.Simd.{first_chunks}
 use mir.Val.{hbits}
-use Rattle.definitions.specs.Limits.{bid_numbers, price_place, quantity_place}
+use Rattle.definitions.specs.Limits.{bid_numbers}
 use Rattle.laws.specs.Chunks.{chunk_entry}
 use Rattle.laws.specs.SignedTests.{back}
 
@@ -19,13 +19,8 @@ module _ (table : List ℤ) {bids : List (List ℤ)} (front : bids ≡ first_chu
   pub number_at : (j : ℕ) → j < bid_numbers → number bids i j ≡ get_or table (bid_numbers * i + j) (pos 0)
   number_at j q = ap (λ (b : List (List ℤ)). number b i j) front ∙ chunk_entry bid_numbers table (length table / bid_numbers) i j (pos 0) (omega arith) q
 
+  pub number_read : (j : ℕ) → j < bid_numbers → mag (number bids i j) < 2 ^ hbits w32 → to_z w32 (of_z w32 (number bids i j)) ≡ get_or table (bid_numbers * i + j) (pos 0)
+  number_read j q given = back w32 (number bids i j) given ∙ number_at j q
+
   pub pool_read : mag (number bids i 0) < 2 ^ hbits w32 → to_z w32 (of_z w32 (number bids i 0)) ≡ get_or table (bid_numbers * i) (pos 0)
-  pool_read given =
-      back w32 (number bids i 0) given ∙ number_at 0 (omega arith) ∙ ap (λ (at : ℕ). get_or table at (pos 0)) (let e : bid_numbers * i + 0 ≡ bid_numbers * i = omega arith in e)
-
-  pub price_read : mag (number bids i price_place) < 2 ^ hbits w32 → to_z w32 (of_z w32 (number bids i price_place)) ≡ get_or table (bid_numbers * i + price_place) (pos 0)
-  price_read given = back w32 (number bids i price_place) given ∙ number_at price_place (omega arith)
-
-  pub quantity_read : mag (number bids i quantity_place) < 2 ^ hbits w32
-      → to_z w32 (of_z w32 (number bids i quantity_place)) ≡ get_or table (bid_numbers * i + quantity_place) (pos 0)
-  quantity_read given = back w32 (number bids i quantity_place) given ∙ number_at quantity_place (omega arith)
+  pool_read given = number_read 0 (omega arith) given ∙ ap (λ (at : ℕ). get_or table at (pos 0)) (let e : bid_numbers * i + 0 ≡ bid_numbers * i = omega arith in e)
