@@ -63,6 +63,15 @@ unfolding max_to
 max_below zero f b h = omega arith
 max_below (suc k) f b h = omega (arith, max_below k f b (λ i l. h i (omega arith)), h k (omega arith))
 
+-- the greatest of numbers that are equal where a test holds, which it does at k
+pub max_of_same : (n : ℕ) (t : ℕ → Bool) (x : ℕ → ℕ) (k : ℕ) → k < n → t k ≡ true → ((i : ℕ) → i < n → t i ≡ true → x i ≡ x k) → max_to n (λ i. on (t i) (x i)) ≡ x k
+max_of_same n t x k l e same =
+    omega (arith, max_below n (λ i. on (t i) (x i)) (x k) (λ i r. below i (t i) (same i r)), rw e at (max_ge_at n (λ i. on (t i) (x i)) k l))
+  where
+    below : (i : ℕ) (u : Bool) → (u ≡ true → x i ≡ x k) → on u (x i) ≤ x k
+    below i true h = omega (arith, h refl)
+    below i false h = omega arith
+
 -- n numbers v in m groups: the greatest over the groups that pass a test of the greatest in each is the greatest of those whose group passes it
 module _ (n m : ℕ) (group v : ℕ → ℕ) (t : ℕ → Bool) (below : (i : ℕ) → i < n → group i < m) where
   -- the greatest in a group

@@ -2,7 +2,7 @@
 use Rattle.std.specs.Prelude.{◌≡◌, Bool, true, false, ◌&&◌, eqb, ltb}
 use Rattle.std.proofs.Common.{refl, sym, ap, ap₂, ◌∙◌, mul-le-mul_right, pow_pos, not, cond, ℕ, zero, suc, ◌+◌, ◌*◌, ◌-◌, ◌≤◌, ◌<◌, ◌/◌, ◌%◌, ◌^◌, min, arith}
 use Rattle.std.proofs.Math.Arith.{digits_div, digits_mod}
-use Rattle.definitions.specs.Limits.{bid_limit, pool_limit, price_limit, quantity_limit, capacity_limit, greatest_positive}
+use Rattle.definitions.specs.Limits.{bid_limit, pool_limit, hundred, price_limit, quantity_limit, capacity_limit, greatest_positive}
 use Rattle.definitions.specs.Arithmetic.{on, sum_to}
 use Rattle.definitions.specs.Book.{Book, purchase, size, capacity}
 use Rattle.definitions.specs.Clearing.{Clearing, Best, Permitted, before}
@@ -23,7 +23,8 @@ use Rattle.theory.specs.Welfare.{turn}
 use Rattle.theory.specs.MeritOrder.{merit, key_low, key_high}
 use Rattle.theory.specs.Grid.{sum_rows}
 use Rattle.theory.specs.Bounds.{rank_masks, cost_with, cost_small, slack_next}
-use Rattle.theory.specs.BookNetwork.{network_of, network_sound, before_raised, before_strict_total, price_raised}
+use Rattle.theory.specs.Hundredths.{price_raised}
+use Rattle.theory.specs.BookNetwork.{network_of, network_sound, before_raised, before_strict_total}
 use Rattle.theory.specs.FlowOrder.{FirstFlows}
 use Rattle.theory.specs.SameClearing.{best_same, permitted_same, first_flows_same}
 use Rattle.theory.specs.CutClearing.{cut_used, cut_clearing, within_cuts, cut_best, cut_permitted}
@@ -53,7 +54,7 @@ module _ (B : Book) (ok : Sound B) where
   -- ---- merit by keys
 
   before_positive_price : (j i : ℕ) → j < B.n → i < B.n → before B j i ≡ merit (λ i. positive_price B i) (λ i. purchase B i) j i
-  before_positive_price = before_raised B (suc price_limit) (λ i. positive_price B i) (λ i l. omega (arith, price_raised B ok i l))
+  before_positive_price = before_raised B (price_limit + hundred) (λ i. positive_price B i) (λ i l. omega (arith, price_raised B ok i l))
 
   pub before_low : (j i : ℕ) → j < B.n → i < B.n → j < i → before B j i ≡ ltb (key B j) (2 * positive_price B i + 1)
   before_low j i l r h = before_positive_price j i l r ∙ key_low (λ i. positive_price B i) (λ i. purchase B i) j i h
@@ -64,7 +65,7 @@ module _ (B : Book) (ok : Sound B) where
   pub before_self : (i : ℕ) → i < B.n → before B i i ≡ false
   before_self i l = (before_strict_total B ok).irreflexive i l
 
-  pub key_small : (i : ℕ) → i < B.n → key B i ≤ 4 * price_limit + 3
+  pub key_small : (i : ℕ) → i < B.n → key B i ≤ 4 * price_limit + 2 * hundred + 1
   key_small i l = omega (arith, ok.price_small i l, on_le (purchase B i) 1)
 
   -- ---- cuts

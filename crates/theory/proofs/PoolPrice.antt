@@ -1,23 +1,26 @@
 -- The pool price is what the request says, step by step (`pool_price_is`). Of a best clearing it does not depend on the flows
 -- (`price_of_flows`), and the closed forms give its cells (`closed_price_lem`).
-use Rattle.std.specs.Prelude.{◌≡◌, Bool, true, false, cond, ◌&&◌, ltb, ◌⊎◌, ℕ, zero, suc, ◌<◌}
-use Rattle.std.proofs.Common.{refl, sym, ap, ap₂, ◌∙◌, subst, inl, inr, arith, eq-or-lt_of_le, lt-ltb, ltb-true}
+use Rattle.std.specs.Prelude.{◌≡◌, Bool, true, false, cond, ◌&&◌, ltb, ◌⊎◌, ℕ, zero, suc, ◌*◌, ◌≤◌, ◌<◌, ℤ, pos, negsuc}
+use Rattle.std.proofs.Common.{refl, sym, ap, ap₂, ◌∙◌, subst, inl, inr, arith, eq-or-lt_of_le, lt-ltb, ltb-true, eqb-true, eq-eqb}
 use Rattle.std.proofs.Math.Nat.{suc_inj}
 use Rattle.std.proofs.lemmas.Bool.{false≢true}
 use Rattle.std.specs.Int.Signed.{lt_z, ≤ℤ_refl}
-use Rattle.definitions.specs.Arithmetic.{on, any_to}
-use Rattle.definitions.specs.Book.{Book, price, size, in_pool}
+use Rattle.definitions.specs.Limits.{whole_limit}
+use Rattle.definitions.specs.Arithmetic.{on, any_to, residue}
+use Rattle.definitions.specs.Book.{Book, whole_price, hundredths, price, size, in_pool}
 use Rattle.definitions.specs.Clearing.{Clearing, Feasible, Best, used}
-use Rattle.definitions.specs.PoolPrice.{PoolPrice, present, lower_price, least_price, supplies, reaches, pool_price, price_residue, presence}
+use Rattle.definitions.specs.PoolPrice.{PoolPrice, missing, present, lower_price, least_price, supplies, reaches, pool_price, price_residue, hundredths_residue, presence}
+use Rattle.definitions.specs.Machine.{minus}
 use Rattle.definitions.specs.Calls.{AcceptedBook}
 use Rattle.laws.specs.Any.{any_to_some, any_to_made, any_to_one}
-use Rattle.laws.specs.Extremes.{max_to, max_ext, max_of_groups}
-use Rattle.laws.specs.AcceptedBook.{Sound, accepted_sound, pool_index, in_pool_lem}
+use Rattle.laws.specs.Extremes.{max_to, max_ext, max_of_same, max_of_groups}
+use Rattle.laws.specs.AcceptedBook.{Sound, accepted_sound, pool_index, raised_whole, hundredths_part, in_pool_lem}
 use Rattle.theory.specs.Choices.{on_on, on_and, and_both, and_made}
-use Rattle.theory.specs.Integers.{less_le, not_less}
+use Rattle.theory.specs.Integers.{RaisedBy, less_le, not_less}
+use Rattle.theory.specs.Hundredths.{parts_apart, whole_raised}
 use Rattle.theory.specs.CutClearing.{best_used_lem}
-use Rattle.theory.specs.ClosedForms.{used_amount, reached, price_margin, margin, pool_margin, best_margin, closed_price, closed_presence}
-use Rattle.theory.specs.PoolPrice.{Supplies, LeastPrice, none, some, supplied, least_price_ext, least_price_cells}
+use Rattle.theory.specs.ClosedForms.{positive_whole, used_amount, reached, price_margin, margin, pool_margin, best_margin, has_price, pool_whole, closed_price, closed_hundredths, closed_presence}
+use Rattle.theory.specs.PoolPrice.{Supplies, LeastPrice, none, some, supplied, least_price_ext, IsMargin, bid_margin, least_price_margin}
 use Rattle.theory.proofs.ClosedBest.{used_is_cut}
 use Rattle.theory.proofs.Ways.{reaches_says, reaches_made}
 use Rattle.theory.proofs.Reachable.{reaches_closed}
@@ -34,13 +37,13 @@ module _ (B : Book) (test : ℕ → Bool) (Test : ℕ → Type 0) where
       go (inr e) = h i (omega arith)
 
   -- bid k passes the test or not
-  least_at : (k : ℕ) (t : Bool) → (t ≡ true → Test k) → (Test k → t ≡ true) → {x : PoolPrice} → LeastPrice B Test k x → LeastPrice B Test (suc k) (cond t (lower_price x (price B k)) x)
+  least_at : (k : ℕ) (t : Bool) → (t ≡ true → Test k) → (Test k → t ≡ true) → {x : PoolPrice} → LeastPrice B Test k x → LeastPrice B Test (suc k) (cond t (lower_price x (whole_price B k) (hundredths B k)) x)
   least_at k false f g (none h) = none (all_below k h (λ a. false≢true (g a)))
   least_at k false f g (some i l s h) = some i (omega arith) s (all_below k h (λ a. absurd (false≢true (g a))))
   least_at k true f g (none h) = some k (omega arith) (f refl) (all_below k (λ j r a. absurd (h j r a)) (λ a. ≤ℤ_refl (price B k)))
   least_at k true f g (some i l s h) = go (lt_z (price B k) (price B i)) refl
     where
-      go : (t : Bool) → lt_z (price B k) (price B i) ≡ t → LeastPrice B Test (suc k) (present (cond t (price B k) (price B i)))
+      go : (t : Bool) → lt_z (price B k) (price B i) ≡ t → LeastPrice B Test (suc k) (cond t (present (whole_price B k) (hundredths B k)) (present (whole_price B i) (hundredths B i)))
       go true q = some k (omega arith) (f refl) (all_below k (λ j r a. less_le (price B k) (price B i) (price B j) q (h j r a)) (λ a. ≤ℤ_refl (price B k)))
       go false q = some i (omega arith) s (all_below k h (λ a. not_less (price B k) (price B i) q))
 
@@ -78,6 +81,50 @@ module _ (B : Book) (c : Clearing) (p : ℕ) (r : p < B.m) where
   unfolding pool_price
   pool_price_is = least_upto B (supplies B c p) (Supplies B c p) B.n (λ i _. supplies_says i) (λ i _. supplies_made i)
 
+-- ---- its three cells, from the best margin: the whole part is found at a bid that has the pool's price
+
+-- of a whole part
+whole_cell : (z : ℤ) (r : ℕ) → RaisedBy whole_limit z r → r ≤ 2 * whole_limit → residue z ≡ minus (suc r) (suc whole_limit)
+whole_cell (pos v) r e h = omega arith
+whole_cell (negsuc v) r e h = omega arith
+
+-- the cells of a price are the closed forms
+abbrev Cells : Book → (p : ℕ) → PoolPrice → Type 0
+Cells B p x = (price_residue x ≡ closed_price B p) × (hundredths_residue x ≡ closed_hundredths B p) × (presence x ≡ closed_presence B p)
+
+module _ (B : Book) (sound : Sound B) (p : ℕ) where
+  supplied_margin : (i : ℕ) → supplied B p i ≡ true → margin B i ≡ price_margin B i
+  unfolding supplied margin
+  supplied_margin i e = rw (and_both (ltb (used_amount B i) (size B i)) (reached B (pool_index B i) p) e).0 refl
+
+  -- bids of one margin that is not 0 have one price, and so one whole part
+  same_whole : (i j : ℕ) → i < B.n → j < B.n → 0 < price_margin B i → margin B j ≡ price_margin B i → positive_whole B j ≡ positive_whole B i
+  unfolding margin
+  same_whole i j l r positive = go (ltb (used_amount B j) (size B j))
+    where
+      go : (t : Bool) → on t (price_margin B j) ≡ price_margin B i → positive_whole B j ≡ positive_whole B i
+      go true e =
+          ap suc
+          (parts_apart (raised_whole B j) (raised_whole B i) (hundredths_part B j) (hundredths_part B i) (sound.hundredths_small j r) (sound.hundredths_small i l)
+          (omega (arith, sound.price_small i l, sound.price_small j r))).0
+      go false e = absurd (omega arith)
+
+  whole_found : (i : ℕ) → i < B.n → has_price B i p ≡ true → ((j : ℕ) → j < B.n → has_price B j p ≡ true → positive_whole B j ≡ positive_whole B i) → pool_whole B p ≡ positive_whole B i
+  unfolding pool_whole
+  whole_found i l e same = max_of_same B.n (λ i. has_price B i p) (λ i. positive_whole B i) i l e same
+
+  price_cells : (x : PoolPrice) → LeastPrice B (λ i. supplied B p i ≡ true) B.n x → IsMargin x (best_margin B p) → Cells B p x
+  price_cells missing least m = rw m (refl, refl, refl)
+  price_cells (present w h) (some i l s _) m =
+      let positive : 0 < price_margin B i = (bid_margin B sound i l).1 in
+      let best : best_margin B p ≡ price_margin B i = omega (arith, m.0, (bid_margin B sound i l).0) in
+      let there : has_price B i p ≡ true = eq-eqb (margin B i) (best_margin B p) (supplied_margin i s ∙ sym best) in
+      let same : (j : ℕ) → j < B.n → has_price B j p ≡ true → positive_whole B j ≡ positive_whole B i =
+      λ j r e. same_whole i j l r positive (eqb-true (margin B j) (best_margin B p) e ∙ best) in
+      let found : pool_whole B p ≡ positive_whole B i = whole_found i l there same in
+      rw (found, best, lt-ltb 0 (price_margin B i) positive, sound.hundredths_is i l)
+      (whole_cell (whole_price B i) (raised_whole B i) (whole_raised B sound i l) (sound.whole_small i l), omega (arith, sound.price_small i l), refl)
+
 -- ---- of a best clearing
 
 module _ (B : Book) (h : AcceptedBook B) (c : Clearing) (b : Best B c) (p : ℕ) (r : p < B.m) where
@@ -106,8 +153,11 @@ module _ (B : Book) (h : AcceptedBook B) (c : Clearing) (b : Best B c) (p : ℕ)
       ∙ sym (on_and (ltb (used_amount B i) (size B i)) (reached B (pool_index B i) p) (price_margin B i)))
 
   -- and the cells that the closed forms give
-  pub closed_price_lem : (price_residue (pool_price B c p) ≡ closed_price B p) × (presence (pool_price B c p) ≡ closed_presence B p)
-  closed_price_lem = rw (closed_pool_price, best_margin_is) (least_price_cells B sound (supplied B p))
+  pub closed_price_lem : Cells B p (pool_price B c p)
+  closed_price_lem =
+      rw closed_pool_price
+      (price_cells B sound p (least_price B (supplied B p) B.n) (least_upto B (supplied B p) (λ i. supplied B p i ≡ true) B.n (λ i _ e. e) (λ i _ e. e))
+      (rw (sym best_margin_is) at (least_price_margin B sound (supplied B p) B.n (omega arith))))
 
 -- all best clearings of a book have the same prices
 pub price_of_best : (B : Book) → AcceptedBook B → (c d : Clearing) → Best B c → Best B d → (p : ℕ) → p < B.m → pool_price B c p ≡ pool_price B d p

@@ -8,7 +8,8 @@ use Rattle.definitions.specs.Book.{Book, price, purchase, sale, size, in_pool, c
 use Rattle.definitions.specs.Clearing.{Clearing, Feasible, sold, bought, inflow, outflow, before, used}
 use Rattle.laws.specs.Sum.{sum_ext}
 use Rattle.laws.specs.AcceptedBook.{Sound, pool_index, raised_price, in_pool_lem}
-use Rattle.theory.specs.Integers.{RaisedBy, raised_by, raised_less, raised_equal}
+use Rattle.theory.specs.Integers.{RaisedBy, raised_less, raised_equal}
+use Rattle.theory.specs.Hundredths.{price_raised}
 use Rattle.theory.specs.StrictOrder.{StrictTotal}
 use Rattle.theory.specs.Network.{Network, SoundNetwork}
 use Rattle.theory.specs.Balance.{only, arriving, departing}
@@ -125,11 +126,8 @@ module _ (B : Book) (ok : Sound B) where
 
   -- ---- the merit order
 
-  pub price_raised : (i : ℕ) → i < B.n → RaisedBy price_limit (price B i) (raised_price B i)
-  price_raised i l = raised_by price_limit (price B i) (raised_price B i) (ok.price_is i l)
-
   pub before_is : (j i : ℕ) → j < B.n → i < B.n → before B j i ≡ merit (λ i. raised_price B i) (λ i. purchase B i) j i
-  before_is = before_raised B price_limit (λ i. raised_price B i) price_raised
+  before_is = before_raised B price_limit (λ i. raised_price B i) (price_raised B ok)
 
   -- "Merit order: lower limit price first; at equal price .." is a strict total order on the bids
   pub before_strict_total : StrictTotal B.n (before B)

@@ -1,13 +1,13 @@
 -- The numbers that a plan computes from a book's numbers, each a sum, a least or a greatest over an index. A set of pools is a number below 2 ^ m.
 -- demand, cut, cost, rank, slack, rest_of and line_flow are here those of a book; Network, Rank and Slacks have them for any network.
 use Rattle.std.specs.Prelude.{ℕ, zero, suc, ◌+◌, ◌-◌, ◌*◌, ◌/◌, ◌%◌, ◌^◌, Bool, not, ◌&&◌, ◌||◌, cond, ltb, eqb}
-use Rattle.definitions.specs.Limits.{price_limit, greatest_positive}
+use Rattle.definitions.specs.Limits.{whole_limit, hundred, price_limit, greatest_positive}
 use Rattle.definitions.specs.Arithmetic.{on, sum_to, all_to}
 use Rattle.definitions.specs.Book.{Book, purchase, size, capacity}
 use Rattle.definitions.specs.Machine.{minus}
 use Rattle.definitions.specs.Clearing.{Clearing, before}
 use Rattle.laws.specs.Extremes.{min_to, max_to}
-use Rattle.laws.specs.AcceptedBook.{pool_index, raised_price}
+use Rattle.laws.specs.AcceptedBook.{pool_index, raised_whole, hundredths_part}
 use Rattle.theory.specs.Subsets.{member}
 
 -- line a to b leaves set S
@@ -18,10 +18,18 @@ leaves S a b = member S a && not (member S b)
 unfoldable pub subset_sum : (m : ℕ) (x : ℕ → ℕ) (S : ℕ) → ℕ
 subset_sum m x S = sum_to m (λ p. on (member S p) (x p))
 
+-- what a price made positive and its margin add up to
+abbrev pub top : ℕ
+top = 2 * price_limit + hundred + 1
+
 module _ (B : Book) where
-  -- a price made positive
+  -- the whole part of a price made positive
+  abbrev pub positive_whole : ℕ → ℕ
+  positive_whole i = suc (raised_whole B i)
+
+  -- a price in hundredths made positive
   abbrev pub positive_price : ℕ → ℕ
-  positive_price i = suc (raised_price B i)
+  positive_price i = hundred * positive_whole i + hundredths_part B i
 
   -- 1 for a purchase, 0 for a sale
   abbrev pub side : ℕ → ℕ
@@ -110,7 +118,7 @@ module _ (B : Book) where
 
   -- the limit and 1, less the price of bid i: the greater the lower the price, and never 0
   abbrev pub price_margin : ℕ → ℕ
-  price_margin i = 2 * suc price_limit - positive_price i
+  price_margin i = top - positive_price i
 
   -- this if something of bid i is not used, else 0
   unfoldable pub margin : ℕ → ℕ
@@ -124,9 +132,21 @@ module _ (B : Book) where
   unfoldable pub best_margin : ℕ → ℕ
   best_margin p = max_to B.m (λ q. on (reached q p) (pool_margin q))
 
+  -- bid i has that margin, and so the pool's price
+  abbrev pub has_price : (i p : ℕ) → Bool
+  has_price i p = eqb (margin i) (best_margin p)
+
+  -- the whole part of the price of such a bid, made positive
+  unfoldable pub pool_whole : ℕ → ℕ
+  pool_whole p = max_to B.n (λ i. on (has_price i p) (positive_whole i))
+
   -- a pool's price cell, 0 if it has none
   abbrev pub closed_price : ℕ → ℕ
-  closed_price p = on (ltb 0 (best_margin p)) (minus (suc price_limit) (best_margin p))
+  closed_price p = on (ltb 0 (best_margin p)) (minus (pool_whole p) (suc whole_limit))
+
+  -- its hundredths: what the price has above 100 times its whole part
+  abbrev pub closed_hundredths : ℕ → ℕ
+  closed_hundredths p = on (ltb 0 (best_margin p)) (minus (minus top (best_margin p)) (hundred * pool_whole p))
 
   -- its presence cell
   abbrev pub closed_presence : ℕ → ℕ

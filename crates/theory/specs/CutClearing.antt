@@ -12,7 +12,8 @@ use Rattle.theory.specs.Flows.{WithinCuts}
 use Rattle.theory.specs.Greatest.{best_used, best_within_cuts, best_greatest}
 use Rattle.theory.specs.Welfare.{FeasibleAmounts, turn, turn_turn, paid, taken, sold_in, bought_in, sold_bought, clearing_feasible, best_clearing, best_welfare}
 use Rattle.theory.specs.Grid.{grid_one_way}
-use Rattle.theory.specs.BookNetwork.{network_of, by_lines, by_pools, used_is, network_sound, feasible_network, network_feasible, before_strict_total, before_rises, price_raised}
+use Rattle.theory.specs.Hundredths.{price_raised}
+use Rattle.theory.specs.BookNetwork.{network_of, by_lines, by_pools, used_is, network_sound, feasible_network, network_feasible, before_strict_total, before_rises}
 use Rattle.theory.specs.Dictionary.{no_greater, no_greater_antisymmetric}
 
 -- used amounts as differences of ranks

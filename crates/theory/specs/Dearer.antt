@@ -1,5 +1,5 @@
 -- Bidding dearer: of two accepted books that are equal but for one bid's price, the one with the higher price accepts no more of it if it is a sale, and no less if it is a purchase.
-use Rattle.std.specs.Prelude.{◌≡◌, refl, Bool, true, false, ◌&&◌, ◌≢◌, List, ℕ, ◌-◌, ◌≤◌, ◌<◌, ◌^◌, ℤ, pos, nat_abs, ◌+ℤ◌, ◌≤ℤ◌, not, cond}
+use Rattle.std.specs.Prelude.{◌≡◌, refl, Bool, true, false, ◌&&◌, ◌≢◌, List, ℕ, ◌-◌, ◌≤◌, ◌<◌, ◌^◌, ℤ, pos, nat_abs, ◌≤ℤ◌, not, cond}
 use Rattle.std.proofs.Common.{sym, ◌∙◌, true≢false, ap, ap₂, arith}
 use Rattle.std.specs.Int.Signed.{lt_z}
 use Rattle.definitions.specs.Limits.{price_limit}
@@ -16,7 +16,8 @@ use Rattle.theory.specs.Network.{Network, SoundNetwork, demand, leaving, cut, �
 use Rattle.theory.specs.Rank.{rank, cost, outside, gains_diminish}
 use Rattle.theory.specs.Greatest.{ahead, best_used}
 use Rattle.theory.specs.MeritOrder.{merit_raise}
-use Rattle.theory.specs.BookNetwork.{network_of, network_sound, before_is, before_strict_total, price_raised}
+use Rattle.theory.specs.Hundredths.{price_raised}
+use Rattle.theory.specs.BookNetwork.{network_of, network_sound, before_is, before_strict_total}
 use Rattle.theory.specs.CutClearing.{cut_used, best_used_lem}
 
 -- ---- the rank looks only at the sizes, pools and sides of the network's bids
@@ -82,7 +83,7 @@ module _ (B : Book) (bids : List ℤ) (i : ℕ) (l : i < B.n) (ok : Sound B) (ok
       before_is (rebid B bids) ok' j i r l
       ∙ merit_raise (λ j. raised_price B j) (λ j. raised_price (rebid B bids) j) (λ j. purchase B j) (λ j. purchase (rebid B bids) j) j i
       (raised_le price_limit (price B i) (price (rebid B bids) i) (raised_price B i) (raised_price (rebid B bids) i) (price_raised B ok i l) (price_raised (rebid B bids) ok' i l) d.higher)
-      (ap (λ (z : ℤ). nat_abs (z +ℤ pos price_limit)) (d.other_prices j r other))
+      (omega (arith, price_raised B ok j r, rw (d.other_prices j r other) at (price_raised (rebid B bids) ok' j r)))
       (sides j r) (sides i l) (sym (before_is B ok j i r l) ∙ e)
     where
       other : j ≢ i

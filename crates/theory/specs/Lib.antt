@@ -20,6 +20,7 @@ pub mod Reach
 -- Of a book, in document 01's words.
 pub mod MeritOrder
 pub mod Grid
+pub mod Hundredths
 pub mod BookNetwork
 pub mod FlowOrder
 pub mod Dictionary
