@@ -1,4 +1,4 @@
--- Runs of the plan by computation, order by order: what they leave on the whole sheet of two small books (`example_run`, `prices_run`).
+-- Runs of the plan by computation, order by order: what they leave on the whole sheet of three small books (`example_run`, `prices_run`, `no_price_run`).
 use Rattle.std.specs.Prelude.{◌≡◌, refl, List, [], ◌∷◌, replicate, ℕ, ◌-◌, pos, neg_ℤ}
 use Rattle.definitions.specs.Limits.{cell_count}
 use Rattle.definitions.specs.Arithmetic.{sum_to}
@@ -13,29 +13,39 @@ use Rattle.plan.specs.Numbered.{plan}
 -- of it goes round by pool 2
 abbrev pub three_pools : Book
 three_pools =
-    book 3 3 (pos 1 ∷ neg_ℤ (pos 10) ∷ pos 4 ∷ pos 3 ∷ neg_ℤ (pos 10) ∷ neg_ℤ (pos 5) ∷ pos 2 ∷ neg_ℤ (pos 10) ∷ neg_ℤ (pos 5) ∷ [])
+    book 3 3
+    (pos 1 ∷ neg_ℤ (pos 10) ∷ pos 4 ∷ pos 0 ∷ pos 3 ∷ neg_ℤ (pos 10) ∷ neg_ℤ (pos 5) ∷ pos 0 ∷ pos 2 ∷ neg_ℤ (pos 10) ∷ neg_ℤ (pos 5) ∷ pos 0 ∷ [])
     (pos 0 ∷ pos 0 ∷ pos 0 ∷ pos 5 ∷ pos 0 ∷ pos 0 ∷ pos 2 ∷ pos 5 ∷ pos 0 ∷ [])
 
--- bids and capacities as sealed, accepted amounts, flows by rows, each pool's price and presence, and 0 in all scratch
+-- bids and capacities as sealed, accepted amounts, flows by rows, each pool's price, hundredths and presence, and 0 in all scratch
 abbrev pub three_pools_cleared : List ℕ
 three_pools_cleared =
-    1 ∷ 2147483637 ∷ 4 ∷ 3 ∷ 2147483637 ∷ 2147483642 ∷ 2 ∷ 2147483637 ∷ 2147483642 ∷ 0 ∷ 0 ∷ 0 ∷ 5 ∷ 0 ∷ 0 ∷ 2 ∷ 5 ∷ 0
-    ∷ 4 ∷ 4 ∷ 0 ∷ 0 ∷ 0 ∷ 0 ∷ 2 ∷ 0 ∷ 0 ∷ 2 ∷ 2 ∷ 0 ∷ 2147483637 ∷ 1 ∷ 2147483637 ∷ 1 ∷ 2147483637 ∷ 1 ∷ replicate (cell_count - first_scratch 3 3) 0
+    1 ∷ 2147483637 ∷ 4 ∷ 0 ∷ 3 ∷ 2147483637 ∷ 2147483642 ∷ 0 ∷ 2 ∷ 2147483637 ∷ 2147483642 ∷ 0 ∷ 0 ∷ 0 ∷ 0 ∷ 5 ∷ 0 ∷ 0 ∷ 2 ∷ 5 ∷ 0
+    ∷ 4 ∷ 4 ∷ 0 ∷ 0 ∷ 0 ∷ 0 ∷ 2 ∷ 0 ∷ 0 ∷ 2 ∷ 2 ∷ 0 ∷ 2147483637 ∷ 0 ∷ 1 ∷ 2147483637 ∷ 0 ∷ 1 ∷ 2147483637 ∷ 0 ∷ 1
+    ∷ replicate (cell_count - first_scratch 3 3) 0
 
 pub example_run : run_of (plan 3 3) (sealed_sheet three_pools) ≡ three_pools_cleared
 unfolding sum_to sealed_sheet run_of member lowest others scratch_count work table plan
 example_run = refl
 
--- three pools, line 1 to 2 carries 3, the others 0; (1,10,−3), (2,30,3), (3,5,−4): the first sale is used up and the line is full, so that pool 1 has the
--- price of the purchase from the other end of the line, and nobody that of the sale in pool 3 but this pool
+-- three pools, line 1 to 2 carries 3, the others 0; sales at 10.50 of 3 in pool 1 and at −4.20 of 1 and −4.25 of 4 in pool 3, a purchase at 30.25 of 3 in
+-- pool 2: the first sale is used up and the line is full, so that pool 1 has the price of the purchase from the other end of the line, and nobody that of
+-- the sales in pool 3 but this pool; and of these, which have one whole part, it has the lower
 full_line : Book
 full_line =
-    book 3 3 (pos 1 ∷ pos 10 ∷ neg_ℤ (pos 3) ∷ pos 2 ∷ pos 30 ∷ pos 3 ∷ pos 3 ∷ pos 5 ∷ neg_ℤ (pos 4) ∷ [])
+    book 4 3
+    (pos 1 ∷ pos 10 ∷ neg_ℤ (pos 3) ∷ pos 50 ∷ pos 2 ∷ pos 30 ∷ pos 3 ∷ pos 25
+    ∷ pos 3 ∷ neg_ℤ (pos 5) ∷ neg_ℤ (pos 1) ∷ pos 80 ∷ pos 3 ∷ neg_ℤ (pos 5) ∷ neg_ℤ (pos 4) ∷ pos 75 ∷ [])
     (pos 0 ∷ pos 3 ∷ pos 0 ∷ pos 0 ∷ pos 0 ∷ pos 0 ∷ pos 0 ∷ pos 0 ∷ pos 0 ∷ [])
 
 prices_run :
-    run_of (plan 3 3) (sealed_sheet full_line)
-    ≡ 1 ∷ 10 ∷ 2147483644 ∷ 2 ∷ 30 ∷ 3 ∷ 3 ∷ 5 ∷ 2147483643 ∷ 0 ∷ 3 ∷ 0 ∷ 0 ∷ 0 ∷ 0 ∷ 0 ∷ 0 ∷ 0
-    ∷ 3 ∷ 3 ∷ 0 ∷ 0 ∷ 3 ∷ 0 ∷ 0 ∷ 0 ∷ 0 ∷ 0 ∷ 0 ∷ 0 ∷ 30 ∷ 1 ∷ 30 ∷ 1 ∷ 5 ∷ 1 ∷ replicate (cell_count - first_scratch 3 3) 0
+    run_of (plan 4 3) (sealed_sheet full_line)
+    ≡ 1 ∷ 10 ∷ 2147483644 ∷ 50 ∷ 2 ∷ 30 ∷ 3 ∷ 25 ∷ 3 ∷ 2147483642 ∷ 2147483646 ∷ 80 ∷ 3 ∷ 2147483642 ∷ 2147483643 ∷ 75 ∷ 0 ∷ 3 ∷ 0 ∷ 0 ∷ 0 ∷ 0 ∷ 0 ∷ 0 ∷ 0
+    ∷ 3 ∷ 3 ∷ 0 ∷ 0 ∷ 0 ∷ 3 ∷ 0 ∷ 0 ∷ 0 ∷ 0 ∷ 0 ∷ 0 ∷ 0 ∷ 30 ∷ 25 ∷ 1 ∷ 30 ∷ 25 ∷ 1 ∷ 2147483642 ∷ 75 ∷ 1 ∷ replicate (cell_count - first_scratch 4 3) 0
 unfolding full_line sum_to sealed_sheet run_of member lowest others scratch_count work table plan
 prices_run = refl
+
+-- one pool and a withdrawn bid at 5.40: no price, all three cells 0
+no_price_run : run_of (plan 1 1) (sealed_sheet (book 1 1 (pos 1 ∷ pos 5 ∷ pos 0 ∷ pos 40 ∷ []) (pos 0 ∷ []))) ≡ 1 ∷ 5 ∷ 0 ∷ 40 ∷ 0 ∷ replicate (cell_count - 5) 0
+unfolding sum_to sealed_sheet run_of member lowest others scratch_count work table plan
+no_price_run = refl

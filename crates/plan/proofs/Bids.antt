@@ -2,24 +2,31 @@
 use Rattle.std.specs.Prelude.{◌≡◌, refl, Bool, [], ◌∷◌, ℕ, suc, ◌*◌, ◌<◌, eqb, ℤ}
 use Rattle.std.proofs.Common.{ap, ◌∙◌, arith, lit<}
 use Rattle.std.proofs.Math.Dec.{eqb-suc-suc}
+use Rattle.definitions.specs.Limits.{hundred}
 use Rattle.definitions.specs.Arithmetic.{on, residue}
-use Rattle.definitions.specs.Machine.{same_as}
-use Rattle.definitions.specs.Book.{Book, pool, price, quantity, size}
-use Rattle.laws.specs.AcceptedBook.{pool_index, raised_price, Sound}
+use Rattle.definitions.specs.Machine.{plus, times, same_as}
+use Rattle.definitions.specs.Book.{Book, pool, whole_price, quantity, hundredths, size}
+use Rattle.laws.specs.AcceptedBook.{pool_index, raised_whole, Sound}
 use Rattle.theory.proofs.ClosedBest.{key_small}
-use Rattle.plan.specs.Residues.{plus_small, times_on, positive_residue, size_residue, raise_residue}
+use Rattle.plan.specs.Residues.{plus_small, times_small, times_on, positive_residue, size_residue, raise_residue}
 use Rattle.plan.specs.Loops.{loop, eqb_same}
 use Rattle.plan.proofs.Holds.{Phase, fill_column, fill_cells}
-use Rattle.plan.specs.Names.{Bids, ZeroCells, Units, Shifts, PoolNumbers, Sides, Sizes, PositivePrices, Doubles, Keys, Nexts, Memberships, PoolSizes, Temporaries}
-use Rattle.plan.proofs.Values.{cell_tables, positive_price, side}
-use Rattle.plan.specs.Blocks.{unit_block, shift_block, pool_number_block, side_block, size_block, positive_price_block, double_block, key_block, next_block, membership_block, pool_size_block}
+use Rattle.plan.specs.Names.{Bids, ZeroCells, Units, Hundreds, Shifts, Tops, PoolNumbers, Sides, Sizes, WholePrices, PositivePrices, Doubles, Keys, Nexts, Memberships, PoolSizes, Temporaries}
+use Rattle.plan.proofs.Values.{cell_tables, positive_whole, positive_price, side}
+use Rattle.plan.specs.Blocks.{unit_block, hundred_block, shift_block, top_block, pool_number_block, side_block, size_block, whole_price_block, positive_price_block, double_block, key_block, next_block, membership_block, pool_size_block}
 
 module _ (B : Book) (sound : Sound B) where
   pub unit_phase : Phase (cell_tables B) [] Units [] (loop 1 unit_block)
   unit_phase = fill_column (cell_tables B) [] Units [] refl refl refl unit_block (λ i. rw (eqb_same i)) (λ i t l h. rw (eqb_same i))
 
+  pub hundred_phase : Phase (cell_tables B) [] Hundreds [] (loop 1 hundred_block)
+  hundred_phase = fill_column (cell_tables B) [] Hundreds [] refl refl refl hundred_block (λ i. rw (eqb_same i)) (λ i t l h. rw (eqb_same i))
+
   pub shift_phase : Phase (cell_tables B) [] Shifts [] (loop 1 shift_block)
   shift_phase = fill_column (cell_tables B) [] Shifts [] refl refl refl shift_block (λ i. rw (eqb_same i)) (λ i t l h. rw (eqb_same i))
+
+  pub top_phase : Phase (cell_tables B) [] Tops [] (loop 1 top_block)
+  top_phase = fill_column (cell_tables B) [] Tops [] refl refl refl top_block (λ i. rw (eqb_same i)) (λ i t l h. rw (eqb_same i))
 
   pub pool_number_phase : Phase (cell_tables B) [] PoolNumbers [] (loop B.m pool_number_block)
   pool_number_phase = fill_column (cell_tables B) [] PoolNumbers [] refl refl refl pool_number_block (λ p. rw (eqb_same p)) (λ p t l h. rw (eqb_same p))
@@ -32,9 +39,18 @@ module _ (B : Book) (sound : Sound B) where
   size_phase = fill_column (cell_tables B) (Bids ∷ Sides ∷ []) Sizes (Temporaries ∷ []) refl refl refl size_block (λ i. rw (eqb_same i))
       (λ i t l h. rw (eqb_same i, h Bids refl i 2 l (lit< tt), h Sides refl i 0 l (lit< tt)) (size_residue (quantity B i) (omega (arith, sound.size_small i l))))
 
-  pub positive_price_phase : Phase (cell_tables B) (Bids ∷ Shifts ∷ []) PositivePrices [] (loop B.n positive_price_block)
-  positive_price_phase = fill_column (cell_tables B) (Bids ∷ Shifts ∷ []) PositivePrices [] refl refl refl positive_price_block (λ i. rw (eqb_same i))
-      (λ i t l h. rw (eqb_same i, h Bids refl i 1 l (lit< tt), h Shifts refl 0 0 (lit< tt) (lit< tt)) (raise_residue (price B i) (raised_price B i) (sound.price_is i l) (sound.price_small i l)))
+  pub whole_price_phase : Phase (cell_tables B) (Bids ∷ Shifts ∷ []) WholePrices [] (loop B.n whole_price_block)
+  whole_price_phase = fill_column (cell_tables B) (Bids ∷ Shifts ∷ []) WholePrices [] refl refl refl whole_price_block (λ i. rw (eqb_same i))
+      (λ i t l h. rw (eqb_same i, h Bids refl i 1 l (lit< tt), h Shifts refl 0 0 (lit< tt) (lit< tt)) (raise_residue (whole_price B i) (raised_whole B i) (sound.whole_is i l) (sound.whole_small i l)))
+
+  -- 100 times the whole part and the hundredths
+  in_hundredths_lem : (i : ℕ) → i < B.n → plus (times (positive_whole B i) hundred) (residue (hundredths B i)) ≡ positive_price B i
+  in_hundredths_lem i l =
+      rw (sound.hundredths_is i l) (omega (arith, times_small (positive_whole B i) hundred (omega (arith, sound.whole_small i l)), sound.whole_small i l, sound.hundredths_small i l))
+
+  pub positive_price_phase : Phase (cell_tables B) (Bids ∷ Hundreds ∷ WholePrices ∷ []) PositivePrices (Temporaries ∷ []) (loop B.n positive_price_block)
+  positive_price_phase = fill_column (cell_tables B) (Bids ∷ Hundreds ∷ WholePrices ∷ []) PositivePrices (Temporaries ∷ []) refl refl refl positive_price_block (λ i. rw (eqb_same i))
+      (λ i t l h. rw (eqb_same i, h WholePrices refl i 0 l (lit< tt), h Hundreds refl 0 0 (lit< tt) (lit< tt), h Bids refl i 3 l (lit< tt)) (in_hundredths_lem i l))
 
   pub double_phase : Phase (cell_tables B) (PositivePrices ∷ []) Doubles [] (loop B.n double_block)
   double_phase = fill_column (cell_tables B) (PositivePrices ∷ []) Doubles [] refl refl refl double_block (λ i. rw (eqb_same i))

@@ -7,7 +7,7 @@ use Rattle.definitions.specs.declared.Order.{Order}
 use Rattle.definitions.specs.Limits.{cell_count}
 use Rattle.definitions.specs.Arithmetic.{sum_to}
 use Rattle.definitions.specs.Book.{Book}
-use Rattle.definitions.specs.Sheet.{sealed_sheet, first_result, amount_cell, flow_cell, price_cell, presence_cell, first_scratch}
+use Rattle.definitions.specs.Sheet.{sealed_sheet, first_result, amount_cell, flow_cell, price_cell, hundredths_cell, presence_cell, first_scratch}
 use Rattle.definitions.specs.Machine.{cell, step_of, run_of}
 use Rattle.laws.specs.Tests.{Lt?, less, more, lt?}
 use Rattle.laws.specs.AcceptedBook.{Sound}
@@ -18,7 +18,7 @@ use Rattle.plan.proofs.LayoutFacts.{address_below, address_apart}
 use Rattle.plan.proofs.Simulation.{run_length, run_other, AllNamed, run_agrees}
 use Rattle.plan.specs.Entries.{all_imply}
 use Rattle.plan.specs.Phased.{flat, flat_last, each_flat}
-use Rattle.plan.proofs.Values.{cell_tables, accepted_amount, line_flow, closed_price, closed_presence}
+use Rattle.plan.proofs.Values.{cell_tables, accepted_amount, line_flow, closed_price, closed_hundredths, closed_presence}
 use Rattle.plan.specs.Blocks.{zero_block}
 use Rattle.plan.specs.Table.{scratch_count, zero_phase, work, table}
 use Rattle.plan.proofs.Whole.{outputs, work_done}
@@ -35,6 +35,7 @@ pub record HoldsClearing (B : Book) (r : List ℕ) : Type 0 where
   pub amount_cells : (i : ℕ) → i < B.n → cell r (amount_cell B.n B.m i) ≡ accepted_amount B i
   pub flow_cells : (a b : ℕ) → a < B.m → b < B.m → cell r (flow_cell B.n B.m a b) ≡ line_flow B (a * B.m + b)
   pub price_cells_lem : (p : ℕ) → p < B.m → cell r (price_cell B.n B.m p) ≡ closed_price B p
+  pub hundredths_cells : (p : ℕ) → p < B.m → cell r (hundredths_cell B.n B.m p) ≡ closed_hundredths B p
   pub presence_cells : (p : ℕ) → p < B.m → cell r (presence_cell B.n B.m p) ≡ closed_presence B p
   pub scratch_zero : (c : ℕ) → first_scratch B.n B.m ≤ c → cell r c ≡ 0
 
@@ -171,6 +172,7 @@ module _ (B : Book) (sound : Sound B) where
         λ a b x y. at_cell (cell_of B.n B.m (at Flows (a * B.m + b) 0)) (flow_cell B.n B.m a b) _ (omega arith)
         (result_cell Flows refl (lit< tt) (a * B.m + b) 0 (digits_lt x y) (lit< tt));
     price_cells_lem = λ p a. at_cell (cell_of B.n B.m (at Prices p 0)) (price_cell B.n B.m p) _ (omega arith) (result_cell Prices refl (lit< tt) p 0 a (lit< tt));
-    presence_cells = λ p a. at_cell (cell_of B.n B.m (at Prices p 1)) (presence_cell B.n B.m p) _ (omega arith) (result_cell Prices refl (lit< tt) p 1 a (lit< tt));
+    hundredths_cells = λ p a. at_cell (cell_of B.n B.m (at Prices p 1)) (hundredths_cell B.n B.m p) _ (omega arith) (result_cell Prices refl (lit< tt) p 1 a (lit< tt));
+    presence_cells = λ p a. at_cell (cell_of B.n B.m (at Prices p 2)) (presence_cell B.n B.m p) _ (omega arith) (result_cell Prices refl (lit< tt) p 2 a (lit< tt));
     scratch_zero = scratch_cell;
   }

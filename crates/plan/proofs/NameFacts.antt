@@ -2,7 +2,7 @@
 use Rattle.std.specs.Prelude.{◌≡◌, refl, true, eqb}
 use Rattle.std.proofs.Common.{sym, ap, ◌∙◌, eqb-true}
 use Rattle.plan.specs.declared.Family.{Family}
-use Rattle.plan.specs.declared.Family.TheVariants.{Bids, Capacities, Amounts, Flows, Prices, Temporaries, ZeroCells, Units, Shifts, PoolNumbers, Sides, Sizes, PositivePrices, Doubles, Keys, Nexts, Memberships, PoolSizes, Demands, Subsets, Cuts, SizesBefore, RanksBefore, SizesWith, RanksWith, Uses, Placements, Slacks, SlackTests, ReachTests, Margins, PoolMargins, BestMargins}
+use Rattle.plan.specs.declared.Family.TheVariants.{Bids, Capacities, Amounts, Flows, Prices, Temporaries, ZeroCells, Units, Hundreds, Shifts, Tops, PoolNumbers, Sides, Sizes, WholePrices, PositivePrices, Doubles, Keys, Nexts, Memberships, PoolSizes, Demands, Subsets, Cuts, SizesBefore, RanksBefore, SizesWith, RanksWith, Uses, Placements, Slacks, SlackTests, ReachTests, Margins, PoolMargins, BestMargins, PriceTests, PoolWholes}
 use Rattle.plan.specs.Names.{number, family_at}
 
 pub at_number : (f : Family) → family_at (number f) ≡ f
@@ -14,10 +14,13 @@ at_number Prices = refl
 at_number Temporaries = refl
 at_number ZeroCells = refl
 at_number Units = refl
+at_number Hundreds = refl
 at_number Shifts = refl
+at_number Tops = refl
 at_number PoolNumbers = refl
 at_number Sides = refl
 at_number Sizes = refl
+at_number WholePrices = refl
 at_number PositivePrices = refl
 at_number Doubles = refl
 at_number Keys = refl
@@ -39,6 +42,8 @@ at_number ReachTests = refl
 at_number Margins = refl
 at_number PoolMargins = refl
 at_number BestMargins = refl
+at_number PriceTests = refl
+at_number PoolWholes = refl
 
 -- no two families have the same number
 pub number_same : (f g : Family) → number f ≡ number g → f ≡ g

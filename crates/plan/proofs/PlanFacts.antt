@@ -58,7 +58,7 @@ module _ (n m : ℕ) where
 
   -- in closed form, with so many sets of pools
   abbrev closed_length : ℕ → ℕ
-  closed_length sets = n * n * (1 + 2 * m) + n * (28 + 17 * m + 12 * sets) + (8 + 13 * m + 9 * (m * m) + sets * (9 + 7 * (m * m)))
+  closed_length sets = n * n * (1 + 2 * m) + n * (31 + 24 * m + 12 * sets) + (12 + 19 * m + 9 * (m * m) + sets * (9 + 7 * (m * m)))
 
   plan_closed : length (plan n m) ≡ closed_length (2 ^ m)
   unfolding table_size row_size table work sum_to scratch_count
@@ -68,7 +68,7 @@ module _ (n m : ℕ) where
   pub plan_bound : 0 < m → m ≤ pool_limit → length (plan n m) ≤ order_limit n m
   plan_bound p k = rw plan_closed (go (2 ^ m) ((m + 1) ^ 6) (power_small m k) (pow-le-pow_left {n = 2} {m = m + 1} (omega arith) 6))
     where
-      go : (sets power : ℕ) → sets ≤ 2 ^ pool_limit → 2 ^ 6 ≤ power → closed_length sets ≤ n * (100 * n + 40 * power) + 10000
+      go : (sets power : ℕ) → sets ≤ 2 ^ pool_limit → 2 ^ 6 ≤ power → closed_length sets ≤ n * (200 * n + 40 * power) + 10000
       go sets power a b =
           omega (
             arith,
@@ -148,5 +148,5 @@ plan_writes_no_input n m h k =
 -- the plan's length at the least and the greatest counts, and between
 lengths :
     length (plan 0 1) ∷ length (plan 0 4) ∷ length (plan 8 2) ∷ length (plan 64 1) ∷ length (plan 64 2) ∷ length (plan 64 4) ∷ []
-    ≡ 62 ∷ 2140 ∷ 1418 ∷ 16766 ∷ 27738 ∷ 57436 ∷ []
+    ≡ 72 ∷ 2168 ∷ 1570 ∷ 17416 ∷ 28842 ∷ 59448 ∷ []
 lengths = rw (plan_closed 0 1, plan_closed 0 4, plan_closed 8 2, plan_closed 64 1, plan_closed 64 2, plan_closed 64 4) refl

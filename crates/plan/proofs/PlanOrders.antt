@@ -33,8 +33,8 @@ module _ (n m : ℕ) (bids : n ≤ bid_limit) (positive : 0 < m) (pools : m ≤ 
 limit_grows : (n m : ℕ) → n ≤ bid_limit → m ≤ pool_limit → order_limit n m ≤ order_limit bid_limit pool_limit
 limit_grows n m h k = go ((m + 1) ^ 6) (pow-le-pow_left {n = m + 1} {m = pool_limit + 1} (omega arith) 6)
   where
-    go : (power : ℕ) → power ≤ (pool_limit + 1) ^ 6 → n * (100 * n + 40 * power) + 10000 ≤ order_limit bid_limit pool_limit
-    go power p = let each : 100 * n + 40 * power ≤ 100 * bid_limit + 40 * (pool_limit + 1) ^ 6 = omega arith in omega (arith, mul-le-mul h each)
+    go : (power : ℕ) → power ≤ (pool_limit + 1) ^ 6 → n * (200 * n + 40 * power) + 10000 ≤ order_limit bid_limit pool_limit
+    go power p = let each : 200 * n + 40 * power ≤ 200 * bid_limit + 40 * (pool_limit + 1) ^ 6 = omega arith in omega (arith, mul-le-mul h each)
 
 -- at accepted counts
 pub length_limit : (n m : ℕ) → Counts n m → length (plan n m) ≤ order_limit bid_limit pool_limit

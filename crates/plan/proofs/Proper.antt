@@ -130,7 +130,10 @@ module _ (n m : ℕ) where
   work_each h =
       ((λ i j a b. omega arith) & tt)
       & ((λ i j a b. omega arith) & tt)
+      & ((λ i j a b. omega arith) & tt)
+      & ((λ i j a b. omega arith) & tt)
       & ((λ p j a b. omega arith) & tt)
+      & ((λ i j a b. omega arith) & tt)
       & ((λ i j a b. omega arith) & tt)
       & ((λ i j a b. omega arith) & tt)
       & ((λ i j a b. omega arith) & tt)
@@ -155,5 +158,7 @@ module _ (n m : ℕ) where
       & ((λ i j a b. omega arith) & tt)
       & ((λ p j a b. omega arith) & (λ p i a b. omega arith & omega arith) & tt)
       & ((λ p j a b. omega arith) & (λ p q a b. best_proper p q a b) & tt)
+      & ((λ i p a b. omega arith) & tt)
+      & ((λ p j a b. omega arith) & (λ p i a b. omega arith & omega arith) & tt)
       & ((λ p j a b. omega arith) & tt)
       & tt

@@ -3,7 +3,7 @@ use Rattle.std.specs.Prelude.{◌≡◌, length}
 use Rattle.std.proofs.Common.{ap, ◌∙◌, arith, [], ◌∷◌, ℕ, zero, suc, ◌+◌, ◌*◌, ◌<◌}
 use Rattle.std.proofs.lemmas.Bool.{false≢true}
 use Rattle.std.proofs.Math.Arith.{digits_lt}
-use Rattle.definitions.specs.Limits.{bid_numbers, price_place, quantity_place}
+use Rattle.definitions.specs.Limits.{bid_numbers, price_place, quantity_place, hundredths_place}
 use Rattle.definitions.specs.Arithmetic.{sum_to, residue}
 use Rattle.definitions.specs.Book.{Book, capacity}
 use Rattle.definitions.specs.Sheet.{sealed_sheet}
@@ -30,7 +30,8 @@ module _ (B : Book) (sound : Sound B) where
   bid_cells i zero a b = at_cell (bid_numbers * i) (omega arith) ∙ sealed_bid B (bid_numbers * i) (omega (arith, sound.bid_table))
   bid_cells i (suc zero) a b = at_cell (bid_numbers * i + price_place) (omega arith) ∙ sealed_bid B (bid_numbers * i + price_place) (omega (arith, sound.bid_table))
   bid_cells i (suc (suc zero)) a b = at_cell (bid_numbers * i + quantity_place) (omega arith) ∙ sealed_bid B (bid_numbers * i + quantity_place) (omega (arith, sound.bid_table))
-  bid_cells i (suc (suc (suc j))) a b = absurd (omega arith)
+  bid_cells i (suc (suc (suc zero))) a b = at_cell (bid_numbers * i + hundredths_place) (omega arith) ∙ sealed_bid B (bid_numbers * i + hundredths_place) (omega (arith, sound.bid_table))
+  bid_cells i (suc (suc (suc (suc j)))) a b = absurd (omega arith)
 
   capacity_cells : (a b : ℕ) → a < B.m → b < B.m → sealed_state (at Capacities a b) ≡ capacity B a b
   unfolding sum_to

@@ -82,14 +82,15 @@ module _ (B : Book) where
         let e : k ≡ length B.bids + (length B.capacities + (k - (length B.bids + length B.capacities))) = omega (arith, sound.bid_table, sound.capacity_table) in
         ap (λ (c : ℕ). cell (sealed_sheet B) c) e ∙ sealed_rest (k - (length B.bids + length B.capacities))
 
-    -- a number of the bid table: the first, second or third of its bid
+    -- a number of the bid table: one of its bid's four
     bid_size : (i j : ℕ) → i < B.n → j < bid_numbers → nat_abs (get_or B.bids (bid_numbers * i + j) (pos 0)) ≤ greatest_positive
     bid_size i zero l h =
         let e : bid_numbers * i + 0 ≡ bid_numbers * i = omega arith in
         rw e (omega (arith, ap nat_abs (sound.pool_is i l), sound.pool_index_lem i l, sound.pools))
-    bid_size i (suc zero) l h = omega (arith, sound.price_size i l)
+    bid_size i (suc zero) l h = omega (arith, sound.whole_size i l)
     bid_size i (suc (suc zero)) l h = omega (arith, sound.size_small i l)
-    bid_size i (suc (suc (suc j))) l h = absurd (omega arith)
+    bid_size i (suc (suc (suc zero))) l h = omega (arith, sound.hundredths_small i l)
+    bid_size i (suc (suc (suc (suc j)))) l h = absurd (omega arith)
 
     bid_below : (c : ℕ) → c < bid_numbers * B.n → cell (sealed_sheet B) c < modulus
     bid_below c l =

@@ -1,25 +1,27 @@
 -- What each family of cells holds in the end: a number of the book or one of the theory's closed forms (`value_of`).
 use Rattle.std.specs.Prelude.{ℕ, zero, suc, ◌+◌, ◌*◌, ◌/◌, ◌%◌, ltb, eqb}
-use Rattle.definitions.specs.Limits.{price_limit}
+use Rattle.definitions.specs.Limits.{whole_limit, hundred}
 use Rattle.definitions.specs.Arithmetic.{on, residue}
-use Rattle.definitions.specs.Book.{Book, pool, price, quantity, size, capacity}
+use Rattle.definitions.specs.Book.{Book, pool, whole_price, quantity, hundredths, size, capacity}
 use Rattle.laws.specs.AcceptedBook.{pool_index}
 use Rattle.plan.proofs.Holds.{Tables}
-use Rattle.plan.specs.Names.{Family, Bids, Capacities, Amounts, Flows, Prices, Temporaries, ZeroCells, Units, Shifts, PoolNumbers, Sides, Sizes, PositivePrices, Doubles, Keys, Nexts, Memberships, PoolSizes, Demands, Subsets, Cuts, SizesBefore, RanksBefore, SizesWith, RanksWith, Uses, Placements, Slacks, SlackTests, ReachTests, Margins, PoolMargins, BestMargins, rows_of, columns_of}
-pub use Rattle.theory.specs.ClosedForms.{positive_price, side, key, pool_size, taken_of, line_flow, unparted, price_margin, closed_price, closed_presence}
-unfoldable pub use Rattle.theory.specs.ClosedForms.{demand, cut, size_before, size_with, rank, used_amount, accepted_amount, placement, slack, rest_of, flow_of, slack_after, reached, margin, pool_margin, best_margin}
+use Rattle.plan.specs.Names.{Family, Bids, Capacities, Amounts, Flows, Prices, Temporaries, ZeroCells, Units, Hundreds, Shifts, Tops, PoolNumbers, Sides, Sizes, WholePrices, PositivePrices, Doubles, Keys, Nexts, Memberships, PoolSizes, Demands, Subsets, Cuts, SizesBefore, RanksBefore, SizesWith, RanksWith, Uses, Placements, Slacks, SlackTests, ReachTests, Margins, PoolMargins, BestMargins, PriceTests, PoolWholes, rows_of, columns_of}
+pub use Rattle.theory.specs.ClosedForms.{top, positive_whole, positive_price, side, key, pool_size, taken_of, line_flow, unparted, price_margin, has_price, closed_price, closed_hundredths, closed_presence}
+unfoldable pub use Rattle.theory.specs.ClosedForms.{demand, cut, size_before, size_with, rank, used_amount, accepted_amount, placement, slack, rest_of, flow_of, slack_after, reached, margin, pool_margin, best_margin, pool_whole}
 
 module _ (B : Book) where
   -- the bid table as sealed
   abbrev pub bid_cell : (i j : ℕ) → ℕ
   bid_cell i zero = residue (pool B i)
-  bid_cell i (suc zero) = residue (price B i)
-  bid_cell i (suc (suc j)) = residue (quantity B i)
+  bid_cell i (suc zero) = residue (whole_price B i)
+  bid_cell i (suc (suc zero)) = residue (quantity B i)
+  bid_cell i (suc (suc (suc j))) = residue (hundredths B i)
 
-  -- a pool's two cells, its price and its presence
+  -- a pool's three cells, its price, its hundredths and its presence
   abbrev pub price_cells : (p j : ℕ) → ℕ
   price_cells p zero = closed_price B p
-  price_cells p (suc j) = closed_presence B p
+  price_cells p (suc zero) = closed_hundredths B p
+  price_cells p (suc (suc j)) = closed_presence B p
 
   -- what each family holds in the end; temporaries and sums over subsets are not kept
   abbrev pub value_of : Family → (i j : ℕ) → ℕ
@@ -31,10 +33,13 @@ module _ (B : Book) where
   value_of Temporaries k j = 0
   value_of ZeroCells i j = 0
   value_of Units i j = 1
-  value_of Shifts i j = suc price_limit
+  value_of Hundreds i j = hundred
+  value_of Shifts i j = suc whole_limit
+  value_of Tops i j = top
   value_of PoolNumbers p j = suc p
   value_of Sides i j = side B i
   value_of Sizes i j = size B i
+  value_of WholePrices i j = positive_whole B i
   value_of PositivePrices i j = positive_price B i
   value_of Doubles i j = 2 * positive_price B i
   value_of Keys i j = key B i
@@ -56,6 +61,8 @@ module _ (B : Book) where
   value_of Margins i j = margin B i
   value_of PoolMargins p j = pool_margin B p
   value_of BestMargins p j = best_margin B p
+  value_of PriceTests i p = on (has_price B i p) 1
+  value_of PoolWholes p j = pool_whole B p
 
   -- the families with their rows, columns and numbers, for book B
   abbrev pub cell_tables : Tables

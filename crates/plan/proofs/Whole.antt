@@ -7,12 +7,12 @@ use Rattle.plan.specs.Orders.{State, run}
 use Rattle.plan.proofs.Holds.{Holds, Step, then, phase_step, step_part}
 use Rattle.plan.specs.Names.{Family, Bids, Capacities, Amounts, Flows, Prices, ZeroCells}
 use Rattle.plan.proofs.Values.{cell_tables}
-use Rattle.plan.proofs.Bids.{unit_phase, shift_phase, pool_number_phase, side_phase, size_phase, positive_price_phase, double_phase, key_phase, next_phase, membership_phase, pool_size_phase}
+use Rattle.plan.proofs.Bids.{unit_phase, hundred_phase, shift_phase, top_phase, pool_number_phase, side_phase, size_phase, whole_price_phase, positive_price_phase, double_phase, key_phase, next_phase, membership_phase, pool_size_phase}
 use Rattle.plan.proofs.Cuts.{demand_phase_lem, cut_phase_lem}
 use Rattle.plan.proofs.Ranks.{size_before_phase_lem, rank_before_phase, size_with_phase, rank_with_phase, use_phase, amount_phase}
 use Rattle.plan.proofs.Lines.{placement_phase_lem, slack_phase_lem, flow_phase}
 use Rattle.plan.proofs.Reaching.{slack_test_phase, reach_phase_lem}
-use Rattle.plan.proofs.Prices.{margin_phase, pool_margin_phase_lem, best_margin_phase_lem, price_phase}
+use Rattle.plan.proofs.Prices.{margin_phase, pool_margin_phase_lem, best_margin_phase_lem, price_test_phase, pool_whole_phase_lem, price_phase}
 use Rattle.plan.specs.Phased.{flat}
 use Rattle.plan.specs.Table.{work}
 
@@ -30,10 +30,13 @@ module _ (B : Book) (sound : Sound B) where
   all_steps =
       step_part (cell_tables B) outputs
       (then (cell_tables B) (phase_step (cell_tables B) _ (unit_phase B sound) refl)
+      (then (cell_tables B) (phase_step (cell_tables B) _ (hundred_phase B sound) refl)
       (then (cell_tables B) (phase_step (cell_tables B) _ (shift_phase B sound) refl)
+      (then (cell_tables B) (phase_step (cell_tables B) _ (top_phase B sound) refl)
       (then (cell_tables B) (phase_step (cell_tables B) _ (pool_number_phase B sound) refl)
       (then (cell_tables B) (phase_step (cell_tables B) _ (side_phase B sound) refl)
       (then (cell_tables B) (phase_step (cell_tables B) _ (size_phase B sound) refl)
+      (then (cell_tables B) (phase_step (cell_tables B) _ (whole_price_phase B sound) refl)
       (then (cell_tables B) (phase_step (cell_tables B) _ (positive_price_phase B sound) refl)
       (then (cell_tables B) (phase_step (cell_tables B) _ (double_phase B sound) refl)
       (then (cell_tables B) (phase_step (cell_tables B) _ (key_phase B sound) refl)
@@ -56,7 +59,9 @@ module _ (B : Book) (sound : Sound B) where
       (then (cell_tables B) (phase_step (cell_tables B) _ (margin_phase B sound) refl)
       (then (cell_tables B) (phase_step (cell_tables B) _ (pool_margin_phase_lem B sound) refl)
       (then (cell_tables B) (phase_step (cell_tables B) _ (best_margin_phase_lem B sound) refl)
-      (phase_step (cell_tables B) _ (price_phase B sound) refl))))))))))))))))))))))))))))
+      (then (cell_tables B) (phase_step (cell_tables B) _ (price_test_phase B sound) refl)
+      (then (cell_tables B) (phase_step (cell_tables B) _ (pool_whole_phase_lem B sound) refl)
+      (phase_step (cell_tables B) _ (price_phase B sound) refl)))))))))))))))))))))))))))))))))
       refl
 
   pub work_done : (s : State) → Holds (cell_tables B) inputs s → Holds (cell_tables B) outputs (run (flat (work B.n B.m)) s)

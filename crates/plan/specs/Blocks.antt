@@ -1,8 +1,9 @@
 -- The plan's smallest blocks of orders, each from the numbers of its bids, pools and sets only; the table puts them together.
 use Rattle.std.specs.Prelude.{Bool, true, false, cond, List, [], ◌∷◌, ℕ, suc, ltb}
-use Rattle.definitions.specs.Limits.{price_limit, greatest_positive}
+use Rattle.definitions.specs.Limits.{whole_limit, hundred, greatest_positive}
 use Rattle.plan.specs.Orders.{OrderOn, constant, sum, difference, product, less, equal}
-use Rattle.plan.specs.Names.{Name, at, Units, Shifts, Pool, Price, Quantity, Capacity, Amount, Flow, PriceOfPool, Presence, Temporary, ZeroCell, One, Shift, PoolNumber, Side, Size, PositivePrice, Double, Key, Next, Membership, PoolSize, Demand, Subset, Cut, SizeBefore, RankBefore, SizeWith, RankWith, Used, Placement, Slack, SlackTest, ReachTest, Margin, BestMargin}
+use Rattle.plan.specs.Names.{Name, at, Units, Hundreds, Shifts, Tops, Pool, Price, Quantity, Hundredths, Capacity, Amount, Flow, PriceOfPool, HundredthsOfPool, Presence, Temporary, ZeroCell, One, Hundred, Shift, Top, PoolNumber, Side, Size, WholePrice, PositivePrice, Double, Key, Next, Membership, PoolSize, Demand, Subset, Cut, SizeBefore, RankBefore, SizeWith, RankWith, Used, Placement, Slack, SlackTest, ReachTest, Margin, BestMargin, PriceTest, PoolWhole}
+use Rattle.theory.specs.ClosedForms.{top}
 use Rattle.plan.specs.Subsets.{leaves, complement}
 use Rattle.plan.specs.Running.{lowered, raised}
 
@@ -16,9 +17,17 @@ Block = List (OrderOn Name)
 abbrev pub unit_block : ℕ → Block
 unit_block i = constant (at Units i 0) 1 ∷ []
 
--- the limit of prices and 1
+-- the number 100
+abbrev pub hundred_block : ℕ → Block
+hundred_block i = constant (at Hundreds i 0) hundred ∷ []
+
+-- the limit of whole prices and 1
 abbrev pub shift_block : ℕ → Block
-shift_block i = constant (at Shifts i 0) (suc price_limit) ∷ []
+shift_block i = constant (at Shifts i 0) (suc whole_limit) ∷ []
+
+-- what a positive price and its margin add up to
+abbrev pub top_block : ℕ → Block
+top_block i = constant (at Tops i 0) top ∷ []
 
 -- the number of pool p in a book
 abbrev pub pool_number_block : ℕ → Block
@@ -38,9 +47,13 @@ size_block i =
     ∷ difference (Size i) (Temporary 0) (Temporary 1)
     ∷ []
 
--- the price of bid i made positive
+-- the whole part of the price of bid i made positive
+abbrev pub whole_price_block : ℕ → Block
+whole_price_block i = sum (WholePrice i) (Price i) Shift ∷ []
+
+-- its price in hundredths made positive
 abbrev pub positive_price_block : ℕ → Block
-positive_price_block i = sum (PositivePrice i) (Price i) Shift ∷ []
+positive_price_block i = product (Temporary 0) (WholePrice i) Hundred ∷ sum (PositivePrice i) (Temporary 0) (Hundredths i) ∷ []
 
 -- twice the positive price
 abbrev pub double_block : ℕ → Block
@@ -191,11 +204,11 @@ take_turn l a b S = difference (Slack S) (Slack S) (taken_cell (leaves S a b) (l
 
 -- ---- the prices
 
--- the limit and 1, less the price of bid i, if the bid is not used up
+-- the limit and 1, less the price of bid i in hundredths, if the bid is not used up
 abbrev pub margin_block : ℕ → Block
 margin_block i =
     less (Temporary 0) (Used i) (Size i)
-    ∷ difference (Temporary 1) Shift (Price i)
+    ∷ difference (Temporary 1) Top (PositivePrice i)
     ∷ product (Margin i) (Temporary 0) (Temporary 1)
     ∷ []
 
@@ -207,12 +220,20 @@ greatest_start d = constant d 0 ∷ []
 abbrev pub greatest_turn : (d test number : Name) → Block
 greatest_turn d test number = product (Temporary 2) test number ∷ raised d (Temporary 2)
 
--- has any pool that reaches pool p a margin? The limit and 1, less the greatest, is its price
+-- has bid i the best margin of pool p?
+abbrev pub price_test_block : (i p : ℕ) → Block
+price_test_block i p = equal (PriceTest i p) (Margin i) (BestMargin p) ∷ []
+
+-- has any pool that reaches pool p a margin? The whole part of its price, and the hundredths: what the price has above 100 times that
 abbrev pub price_block : ℕ → Block
 price_block p =
     less (Presence p) ZeroCell (BestMargin p)
-    ∷ difference (Temporary 0) Shift (BestMargin p)
+    ∷ difference (Temporary 0) (PoolWhole p) Shift
     ∷ product (PriceOfPool p) (Temporary 0) (Presence p)
+    ∷ product (Temporary 0) (PoolWhole p) Hundred
+    ∷ difference (Temporary 1) Top (BestMargin p)
+    ∷ difference (Temporary 1) (Temporary 1) (Temporary 0)
+    ∷ product (HundredthsOfPool p) (Temporary 1) (Presence p)
     ∷ []
 
 -- ---- the end

@@ -1,10 +1,10 @@
 -- The families of cells: where each stands on the sheet, how many rows and columns it has (`family_place`), and the names of its cells.
 -- What each holds is said where the code declares them, and in Values.
 use Rattle.std.specs.Prelude.{ℕ, ◌*◌, ◌^◌, Bool, ◌&&◌, List, [], ◌∷◌, eqb, get_or}
-use Rattle.definitions.specs.Limits.{bid_numbers, price_place, quantity_place, pool_results}
+use Rattle.definitions.specs.Limits.{bid_numbers, price_place, quantity_place, hundredths_place, pool_results}
 use Rattle.plan.specs.declared.Place.{Place}
 pub use Rattle.plan.specs.declared.Family.{Family}
-pub use Rattle.plan.specs.declared.Family.TheVariants.{Bids, Capacities, Amounts, Flows, Prices, Temporaries, ZeroCells, Units, Shifts, PoolNumbers, Sides, Sizes, PositivePrices, Doubles, Keys, Nexts, Memberships, PoolSizes, Demands, Subsets, Cuts, SizesBefore, RanksBefore, SizesWith, RanksWith, Uses, Placements, Slacks, SlackTests, ReachTests, Margins, PoolMargins, BestMargins}
+pub use Rattle.plan.specs.declared.Family.TheVariants.{Bids, Capacities, Amounts, Flows, Prices, Temporaries, ZeroCells, Units, Hundreds, Shifts, Tops, PoolNumbers, Sides, Sizes, WholePrices, PositivePrices, Doubles, Keys, Nexts, Memberships, PoolSizes, Demands, Subsets, Cuts, SizesBefore, RanksBefore, SizesWith, RanksWith, Uses, Placements, Slacks, SlackTests, ReachTests, Margins, PoolMargins, BestMargins, PriceTests, PoolWholes}
 
 -- the place of each family on the sheet, for n bids, m pools, and so many lines and sets of pools: its number, its rows and its columns
 abbrev pub family_place : (n m lines sets : ℕ) → Family → Place
@@ -16,31 +16,36 @@ family_place n m lines sets Prices = (4, m, pool_results)
 family_place n m lines sets Temporaries = (5, 3, 1)
 family_place n m lines sets ZeroCells = (6, 1, 1)
 family_place n m lines sets Units = (7, 1, 1)
-family_place n m lines sets Shifts = (8, 1, 1)
-family_place n m lines sets PoolNumbers = (9, m, 1)
-family_place n m lines sets Sides = (10, n, 1)
-family_place n m lines sets Sizes = (11, n, 1)
-family_place n m lines sets PositivePrices = (12, n, 1)
-family_place n m lines sets Doubles = (13, n, 1)
-family_place n m lines sets Keys = (14, n, 1)
-family_place n m lines sets Nexts = (15, n, 1)
-family_place n m lines sets Memberships = (16, n, m)
-family_place n m lines sets PoolSizes = (17, n, m)
-family_place n m lines sets Demands = (18, m, 1)
-family_place n m lines sets Subsets = (19, sets, 1)
-family_place n m lines sets Cuts = (20, sets, 1)
-family_place n m lines sets SizesBefore = (21, n, m)
-family_place n m lines sets RanksBefore = (22, n, 1)
-family_place n m lines sets SizesWith = (23, n, m)
-family_place n m lines sets RanksWith = (24, n, 1)
-family_place n m lines sets Uses = (25, n, 1)
-family_place n m lines sets Placements = (26, m, 1)
-family_place n m lines sets Slacks = (27, sets, 1)
-family_place n m lines sets SlackTests = (28, sets, 1)
-family_place n m lines sets ReachTests = (29, lines, 1)
-family_place n m lines sets Margins = (30, n, 1)
-family_place n m lines sets PoolMargins = (31, m, 1)
-family_place n m lines sets BestMargins = (32, m, 1)
+family_place n m lines sets Hundreds = (8, 1, 1)
+family_place n m lines sets Shifts = (9, 1, 1)
+family_place n m lines sets Tops = (10, 1, 1)
+family_place n m lines sets PoolNumbers = (11, m, 1)
+family_place n m lines sets Sides = (12, n, 1)
+family_place n m lines sets Sizes = (13, n, 1)
+family_place n m lines sets WholePrices = (14, n, 1)
+family_place n m lines sets PositivePrices = (15, n, 1)
+family_place n m lines sets Doubles = (16, n, 1)
+family_place n m lines sets Keys = (17, n, 1)
+family_place n m lines sets Nexts = (18, n, 1)
+family_place n m lines sets Memberships = (19, n, m)
+family_place n m lines sets PoolSizes = (20, n, m)
+family_place n m lines sets Demands = (21, m, 1)
+family_place n m lines sets Subsets = (22, sets, 1)
+family_place n m lines sets Cuts = (23, sets, 1)
+family_place n m lines sets SizesBefore = (24, n, m)
+family_place n m lines sets RanksBefore = (25, n, 1)
+family_place n m lines sets SizesWith = (26, n, m)
+family_place n m lines sets RanksWith = (27, n, 1)
+family_place n m lines sets Uses = (28, n, 1)
+family_place n m lines sets Placements = (29, m, 1)
+family_place n m lines sets Slacks = (30, sets, 1)
+family_place n m lines sets SlackTests = (31, sets, 1)
+family_place n m lines sets ReachTests = (32, lines, 1)
+family_place n m lines sets Margins = (33, n, 1)
+family_place n m lines sets PoolMargins = (34, m, 1)
+family_place n m lines sets BestMargins = (35, m, 1)
+family_place n m lines sets PriceTests = (36, n, m)
+family_place n m lines sets PoolWholes = (37, m, 1)
 
 -- the number of a family
 abbrev pub number : Family → ℕ
@@ -57,14 +62,14 @@ columns_of n m f = (family_place n m (m * m) (2 ^ m) f).2
 -- the families by their numbers
 abbrev pub families : List Family
 families =
-    Bids ∷ Capacities ∷ Amounts ∷ Flows ∷ Prices ∷ Temporaries ∷ ZeroCells ∷ Units ∷ Shifts ∷ PoolNumbers
-    ∷ Sides ∷ Sizes ∷ PositivePrices ∷ Doubles ∷ Keys ∷ Nexts ∷ Memberships ∷ PoolSizes ∷ Demands ∷ Subsets
-    ∷ Cuts ∷ SizesBefore ∷ RanksBefore ∷ SizesWith ∷ RanksWith ∷ Uses ∷ Placements ∷ Slacks ∷ SlackTests ∷ ReachTests
-    ∷ Margins ∷ PoolMargins ∷ BestMargins ∷ []
+    Bids ∷ Capacities ∷ Amounts ∷ Flows ∷ Prices ∷ Temporaries ∷ ZeroCells ∷ Units ∷ Hundreds ∷ Shifts
+    ∷ Tops ∷ PoolNumbers ∷ Sides ∷ Sizes ∷ WholePrices ∷ PositivePrices ∷ Doubles ∷ Keys ∷ Nexts ∷ Memberships
+    ∷ PoolSizes ∷ Demands ∷ Subsets ∷ Cuts ∷ SizesBefore ∷ RanksBefore ∷ SizesWith ∷ RanksWith ∷ Uses ∷ Placements
+    ∷ Slacks ∷ SlackTests ∷ ReachTests ∷ Margins ∷ PoolMargins ∷ BestMargins ∷ PriceTests ∷ PoolWholes ∷ []
 
 -- how many there are
 abbrev pub family_count : ℕ
-family_count = 33
+family_count = 38
 
 -- family k
 abbrev pub family_at : ℕ → Family
@@ -94,13 +99,17 @@ same (at s a b) (at t c d) = eqb (number s) (number t) && (eqb a c && eqb b d)
 abbrev pub Pool : ℕ → Name
 Pool i = at Bids i 0
 
--- the price of bid i
+-- the whole part of the price of bid i
 abbrev pub Price : ℕ → Name
 Price i = at Bids i price_place
 
 -- the quantity of bid i: above 0 it is a purchase, else a sale
 abbrev pub Quantity : ℕ → Name
 Quantity i = at Bids i quantity_place
+
+-- the hundredths of bid i
+abbrev pub Hundredths : ℕ → Name
+Hundredths i = at Bids i hundredths_place
 
 -- the capacity of the line from pool a to pool b
 abbrev pub Capacity : ℕ → ℕ → Name
@@ -114,13 +123,17 @@ Amount i = at Amounts i 0
 abbrev pub Flow : ℕ → Name
 Flow l = at Flows l 0
 
--- the price of pool p, 0 if it has none
+-- the whole part of the price of pool p, 0 if it has none
 abbrev pub PriceOfPool : ℕ → Name
 PriceOfPool p = at Prices p 0
 
+-- its hundredths, 0 if it has none
+abbrev pub HundredthsOfPool : ℕ → Name
+HundredthsOfPool p = at Prices p 1
+
 -- 1 if pool p has a price, else 0
 abbrev pub Presence : ℕ → Name
-Presence p = at Prices p 1
+Presence p = at Prices p 2
 
 -- ---- scratch
 
@@ -136,9 +149,17 @@ ZeroCell = at ZeroCells 0 0
 abbrev pub One : Name
 One = at Units 0 0
 
--- the limit of prices and 1
+-- 100
+abbrev pub Hundred : Name
+Hundred = at Hundreds 0 0
+
+-- the limit of whole prices and 1
 abbrev pub Shift : Name
 Shift = at Shifts 0 0
+
+-- what a positive price and its margin add up to
+abbrev pub Top : Name
+Top = at Tops 0 0
 
 -- p + 1
 abbrev pub PoolNumber : ℕ → Name
@@ -152,7 +173,11 @@ Side i = at Sides i 0
 abbrev pub Size : ℕ → Name
 Size i = at Sizes i 0
 
--- the price of bid i and the shift
+-- the whole part of the price of bid i and the shift
+abbrev pub WholePrice : ℕ → Name
+WholePrice i = at WholePrices i 0
+
+-- 100 times that, and the hundredths of bid i
 abbrev pub PositivePrice : ℕ → Name
 PositivePrice i = at PositivePrices i 0
 
@@ -224,7 +249,7 @@ SlackTest S = at SlackTests S 0
 abbrev pub ReachTest : ℕ → Name
 ReachTest l = at ReachTests l 0
 
--- the limit and 1, less the price of bid i; 0 if the bid is used up
+-- the limit and 1, less the price of bid i in hundredths; 0 if the bid is used up
 abbrev pub Margin : ℕ → Name
 Margin i = at Margins i 0
 
@@ -235,3 +260,11 @@ PoolMargin p = at PoolMargins p 0
 -- the greatest of the pools that reach pool p, 0 if none
 abbrev pub BestMargin : ℕ → Name
 BestMargin p = at BestMargins p 0
+
+-- 1 if bid i has the best margin of pool p, and so its price, else 0
+abbrev pub PriceTest : ℕ → ℕ → Name
+PriceTest i p = at PriceTests i p
+
+-- the whole part, and the shift, of the price of pool p
+abbrev pub PoolWhole : ℕ → Name
+PoolWhole p = at PoolWholes p 0

@@ -2,7 +2,7 @@
 use Rattle.std.specs.Prelude.{◌≡◌, refl, Bool, true, false, cond, ℕ, zero, suc, ◌+◌, ◌-◌, ◌*◌, ◌≤◌, ◌<◌, min, max, ltb, ℤ, pos, negsuc, nat_abs, ◌+ℤ◌}
 use Rattle.std.proofs.Common.{ap, arith, lt-ltb, le-ltb}
 use Rattle.std.specs.Int.Signed.{lt_z}
-use Rattle.definitions.specs.Limits.{modulus, greatest_positive, price_limit}
+use Rattle.definitions.specs.Limits.{modulus, greatest_positive, whole_limit}
 use Rattle.definitions.specs.Arithmetic.{on, residue}
 use Rattle.definitions.specs.Machine.{plus, minus, times, less_than}
 use Rattle.laws.specs.Tests.{Lt?, less, more, lt?}
@@ -13,6 +13,9 @@ plus_small a b h = omega arith
 
 pub minus_small : (a b : ℕ) → a < modulus → b ≤ a → minus a b ≡ a - b
 minus_small a b h k = omega arith
+
+pub times_small : (a b : ℕ) → a * b < modulus → times a b ≡ a * b
+times_small a b h = omega arith
 
 -- a product with a test's number
 pub times_on : (t : Bool) (v : ℕ) → v < modulus → times (on t 1) v ≡ on t v
@@ -60,16 +63,11 @@ size_residue (negsuc a) h =
     let whole : minus (modulus - suc a) 0 ≡ modulus - suc a = omega arith in
     rw (nothing, whole) (omega arith)
 
--- a price, raised by its limit and 1
-pub raise_residue : (z : ℤ) (r : ℕ) → z +ℤ pos price_limit ≡ pos r → r ≤ 2 * price_limit → plus (residue z) (suc price_limit) ≡ suc r
-raise_residue (pos a) r e h = let q : a + price_limit ≡ r = ap nat_abs e in omega arith
-raise_residue (negsuc a) r e h = go (lt? price_limit (suc a)) e
+-- the whole part of a price, raised by its limit and 1
+pub raise_residue : (z : ℤ) (r : ℕ) → z +ℤ pos whole_limit ≡ pos r → r ≤ 2 * whole_limit → plus (residue z) (suc whole_limit) ≡ suc r
+raise_residue (pos a) r e h = let q : a + whole_limit ≡ r = ap nat_abs e in omega arith
+raise_residue (negsuc a) r e h = go (lt? whole_limit (suc a)) e
   where
-    go : {t : Bool} → Lt? price_limit (suc a) t → cond t (negsuc (suc a - suc price_limit)) (pos (price_limit - suc a)) ≡ pos r → plus (modulus - suc a) (suc price_limit) ≡ suc r
+    go : {t : Bool} → Lt? whole_limit (suc a) t → cond t (negsuc (suc a - suc whole_limit)) (pos (whole_limit - suc a)) ≡ pos r → plus (modulus - suc a) (suc whole_limit) ≡ suc r
     go (less l) f = let q : ◌≡◌ {A = ℕ} 0 1 = cc in omega arith
-    go (more l) f = let q : price_limit - suc a ≡ r = ap nat_abs f in omega arith
-
--- the limit and 1, less a price
-pub margin_residue : (z : ℤ) (r : ℕ) → z +ℤ pos price_limit ≡ pos r → r ≤ 2 * price_limit → minus (suc price_limit) (residue z) ≡ 2 * suc price_limit - suc r
-margin_residue (pos a) r e h = let q : a + price_limit ≡ r = ap nat_abs e in omega arith
-margin_residue (negsuc a) r e h = omega (arith, raise_residue (negsuc a) r e h)
+    go (more l) f = let q : whole_limit - suc a ≡ r = ap nat_abs f in omega arith

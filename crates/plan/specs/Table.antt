@@ -4,9 +4,9 @@ use Rattle.std.specs.Prelude.{◌≡◌, refl, List, [], ◌∷◌, ◌++◌, �
 use Rattle.std.proofs.Common.{arith}
 use Rattle.definitions.specs.Arithmetic.{sum_to}
 use Rattle.plan.specs.Orders.{OrderOn}
-use Rattle.plan.specs.Names.{Temporaries, number, family_at, family_count, rows_of, columns_of, Name, Demand, SizeBefore, RankBefore, SizeWith, RankWith, Placement, Membership, ReachTest, Margin, PoolMargin, BestMargin}
+use Rattle.plan.specs.Names.{Temporaries, number, family_at, family_count, rows_of, columns_of, Name, Demand, SizeBefore, RankBefore, SizeWith, RankWith, Placement, Membership, ReachTest, Margin, PoolMargin, BestMargin, WholePrice, PriceTest, PoolWhole}
 use Rattle.plan.specs.Running.{subset_block}
-use Rattle.plan.specs.Blocks.{Block, unit_block, shift_block, pool_number_block, side_block, size_block, positive_price_block, double_block, key_block, next_block, membership_block, pool_size_block, demand_start, demand_turn, cut_start, cut_turn, test_order, gain_turn, size_before_start, cost_start, cost_turn, size_with_block, use_block, amount_block, placement_start, placement_turn, slack_block, rest_start, rest_turn, flow_block, take_turn, slack_test_block, reach_start, reach_turn, margin_block, greatest_start, greatest_turn, price_block, zero_block}
+use Rattle.plan.specs.Blocks.{Block, unit_block, hundred_block, shift_block, top_block, pool_number_block, side_block, size_block, whole_price_block, positive_price_block, double_block, key_block, next_block, membership_block, pool_size_block, demand_start, demand_turn, cut_start, cut_turn, test_order, gain_turn, size_before_start, cost_start, cost_turn, size_with_block, use_block, amount_block, placement_start, placement_turn, slack_block, rest_start, rest_turn, flow_block, take_turn, slack_test_block, reach_start, reach_turn, margin_block, greatest_start, greatest_turn, price_test_block, price_block, zero_block}
 use Rattle.plan.specs.Loops.{loop}
 use Rattle.plan.specs.Phased.{PartOf, PhaseOf, part, phase, stretch, row_of, even_length, phase_in}
 
@@ -138,7 +138,8 @@ module _ (n m : ℕ) where
   abbrev pub line_block : ℕ → Block
   line_block l = row_of line_phase l
 
-  -- ---- the greatest in d p over some columns of the products of test p i and number i: in each pool of its bids' margins, then of the pools that reach it
+  -- ---- the greatest in d p over some columns of the products of test p i and number i: in each pool of its bids' margins, then of the pools that reach it;
+  -- and of the whole parts of the bids that have its price
 
   -- a start, then a turn for each column
   abbrev pub greatest_phase : (columns : ℕ) → (ℕ → Name) → (ℕ → ℕ → Name) → (ℕ → Name) → Phase
@@ -157,6 +158,10 @@ module _ (n m : ℕ) where
   abbrev pub best_margin_phase : Phase
   best_margin_phase = greatest_phase m BestMargin (λ p q. ReachTest (q * m + p)) PoolMargin
 
+  -- of the whole parts of the bids that have a pool's price, which are one number
+  abbrev pub pool_whole_phase : Phase
+  pool_whole_phase = greatest_phase n PoolWhole (λ p i. PriceTest i p) WholePrice
+
   -- ---- the scratch
 
   -- how many scratch cells have names: those of the families from the temporaries on
@@ -173,11 +178,14 @@ module _ (n m : ℕ) where
   unfoldable pub work : List Phase
   work =
       phase 1 (each 1 unit_block (λ i. refl) ∷ [])
+      ∷ phase 1 (each 1 hundred_block (λ i. refl) ∷ [])
       ∷ phase 1 (each 1 shift_block (λ i. refl) ∷ [])
+      ∷ phase 1 (each 1 top_block (λ i. refl) ∷ [])
       ∷ phase m (each 1 pool_number_block (λ p. refl) ∷ [])
       ∷ phase n (each 1 side_block (λ i. refl) ∷ [])
       ∷ phase n (each 3 size_block (λ i. refl) ∷ [])
-      ∷ phase n (each 1 positive_price_block (λ i. refl) ∷ [])
+      ∷ phase n (each 1 whole_price_block (λ i. refl) ∷ [])
+      ∷ phase n (each 2 positive_price_block (λ i. refl) ∷ [])
       ∷ phase n (each 1 double_block (λ i. refl) ∷ [])
       ∷ phase n (each 1 key_block (λ i. refl) ∷ [])
       ∷ phase n (each 1 next_block (λ i. refl) ∷ [])
@@ -199,7 +207,9 @@ module _ (n m : ℕ) where
       ∷ phase n (each 3 margin_block (λ i. refl) ∷ [])
       ∷ pool_margin_phase
       ∷ best_margin_phase
-      ∷ phase m (each 3 price_block (λ p. refl) ∷ [])
+      ∷ phase n (part m 1 price_test_block (λ i p. refl) ∷ [])
+      ∷ pool_whole_phase
+      ∷ phase m (each 7 price_block (λ p. refl) ∷ [])
       ∷ []
 
   -- the work, then the zeros
@@ -212,7 +222,7 @@ module _ (n m : ℕ) where
 
 -- how many phases the table has
 abbrev pub phase_count : ℕ
-phase_count = 29
+phase_count = 34
 
 pub table_length : (n m : ℕ) → length (table n m) ≡ phase_count
 unfolding table work

@@ -4,7 +4,7 @@
 // The families of cells, in their order on the sheet: inputs, results, then scratch.
 #[derive(Clone, Copy, Debug, PartialEq, Eq)]
 pub enum Family {
-    // Each bid's pool, price and quantity.
+    // Each bid's pool, price, quantity and hundredths.
     Bids,
     // The capacity of each line, by its two ends.
     Capacities,
@@ -12,7 +12,7 @@ pub enum Family {
     Amounts,
     // The flow of each line, by the line's number.
     Flows,
-    // Each pool's price and presence.
+    // Each pool's price, hundredths and presence.
     Prices,
     // What one block keeps for itself.
     Temporaries,
@@ -20,15 +20,21 @@ pub enum Family {
     ZeroCells,
     // The number 1.
     Units,
-    // The limit of prices and 1.
+    // The number 100.
+    Hundreds,
+    // The limit of whole prices and 1.
     Shifts,
+    // What a positive price and its margin add up to.
+    Tops,
     // Each pool's number in a book, from 1.
     PoolNumbers,
     // Each bid's side: 1 for a purchase, 0 for a sale.
     Sides,
     // Each bid's quantity without its sign.
     Sizes,
-    // Each bid's price made positive.
+    // The whole part of each bid's price made positive.
+    WholePrices,
+    // Each bid's price in hundredths made positive.
     PositivePrices,
     // Each positive price doubled.
     Doubles,
@@ -70,11 +76,15 @@ pub enum Family {
     PoolMargins,
     // The greatest margin in the pools that reach each pool.
     BestMargins,
+    // Whether a bid has a pool's best margin, and so its price, as 1 or 0.
+    PriceTests,
+    // The whole part of each pool's price made positive.
+    PoolWholes,
 }
 
 impl Family {
     // How many families there are.
-    pub const COUNT: usize = 33;
+    pub const COUNT: usize = 38;
 
     // The families, each at its number.
     pub const ALL: [Family; Family::COUNT] = [
@@ -86,10 +96,13 @@ impl Family {
         Family::Temporaries,
         Family::ZeroCells,
         Family::Units,
+        Family::Hundreds,
         Family::Shifts,
+        Family::Tops,
         Family::PoolNumbers,
         Family::Sides,
         Family::Sizes,
+        Family::WholePrices,
         Family::PositivePrices,
         Family::Doubles,
         Family::Keys,
@@ -111,6 +124,8 @@ impl Family {
         Family::Margins,
         Family::PoolMargins,
         Family::BestMargins,
+        Family::PriceTests,
+        Family::PoolWholes,
     ];
 }
 
