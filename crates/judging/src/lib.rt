@@ -5,8 +5,8 @@ ghost use Rattle.std.specs.Prelude.{◌≡◌, [], ◌*◌, ◌≤◌, length, I
 ghost use Rattle.definitions.specs.Limits.{pool_limit, bid_numbers};
 ghost use Rattle.definitions.specs.Arithmetic.{within};
 ghost use Rattle.definitions.specs.Answers.{refusal_of, numbered};
-ghost use Rattle.definitions.specs.Book.{book, book_of};
-ghost use Rattle.definitions.specs.Calls.{pools_refusal, counts_refusal, bid_fault, bid_refusal, bids_refusal, capacity_fault, capacities_refusal, seal_refusal, cells_refusal, results_refusal};
+ghost use Rattle.definitions.specs.Book.{book, book_of, in_hundredths};
+ghost use Rattle.definitions.specs.Calls.{pools_refusal, counts_refusal, price_in_range, bid_fault, bid_refusal, bids_refusal, capacity_fault, capacities_refusal, seal_refusal, cells_refusal, results_refusal};
 ghost use Rattle.judging.specs.Tables.{tables_refusal};
 
 use definitions::{Counts, LentBook, Limits, Reason, Verdict};
@@ -65,16 +65,39 @@ fn is_within(low: i32, high: i32, v: i32) -> bool
     (low..=high).contains(&v)
 }
 
+// A price in hundredths. In 64 bits it fits for any two numbers.
+fn price_in_hundredths(price: i32, hundredths: i32) -> i64
+    ensures { result ≡ in_hundredths price hundredths }
+{
+    price as i64 * Limits::HUNDRED as i64 + hundredths as i64
+}
+
+// A limit price: its whole part, its hundredths, and then both together.
+fn is_price(price: i32, hundredths: i32) -> bool
+    ensures { result ≡ price_in_range price hundredths }
+{
+    is_within(-Limits::WHOLE, Limits::WHOLE, price)
+        && is_within(0, Limits::HUNDREDTHS, hundredths)
+        && price_in_hundredths(price, hundredths) <= Limits::PRICE as i64
+}
+
 // One bid: 4, 5, 6. Its numbers come as the table and `judge_bid` have them: a struct would be made for this call alone. Of the counts only m is
-// asked, with its bound: a bid judged alone has no n.
-fn judge_numbers(m: usize, pool: i32, price: i32, quantity: i32, place: usize) -> Verdict
+// asked, with its bound: a bid judged alone has no n. The hundredths, though last in the table, are judged with the price.
+fn judge_numbers(
+    m: usize,
+    pool: i32,
+    price: i32,
+    quantity: i32,
+    hundredths: i32,
+    place: usize,
+) -> Verdict
     requires { m ≤ pool_limit }
-    ensures { refusal_of result ≡ numbered (bid_fault m pool price quantity) place }
+    ensures { refusal_of result ≡ numbered (bid_fault m pool price quantity hundredths) place }
 {
     if !is_within(1, m as i32, pool) {
         return Err(Reason::Pool(place));
     }
-    if !is_within(-Limits::PRICE, Limits::PRICE, price) {
+    if !is_price(price, hundredths) {
         return Err(Reason::Price(place));
     }
     if !is_within(-Limits::QUANTITY, Limits::QUANTITY, quantity) {
@@ -84,11 +107,11 @@ fn judge_numbers(m: usize, pool: i32, price: i32, quantity: i32, place: usize) -
 }
 
 // A bid judged alone: 2, then the bid's own refusals, with place 0.
-pub fn judge_bid(m: usize, pool: i32, price: i32, quantity: i32) -> Verdict
-    ensures { refusal_of result ≡ bid_refusal m pool price quantity }
+pub fn judge_bid(m: usize, pool: i32, price: i32, quantity: i32, hundredths: i32) -> Verdict
+    ensures { refusal_of result ≡ bid_refusal m pool price quantity hundredths }
 {
     judge_pools(m)?;
-    judge_numbers(m, pool, price, quantity, 0)
+    judge_numbers(m, pool, price, quantity, hundredths, 0)
 }
 
 // The bids one by one, each by its number.
@@ -97,8 +120,8 @@ fn judge_bids(counts: Counts, table: &[i32]) -> Verdict
     ensures { refusal_of result ≡ bids_refusal (book counts.n counts.m table.now []) }
 {
     let (bids, _) = table.as_chunks::<{ Limits::BID_NUMBERS }>();
-    for (i, &[pool, price, quantity]) in bids.iter().enumerate() {
-        judge_numbers(counts.m, pool, price, quantity, i + 1)?;
+    for (i, &[pool, price, quantity, hundredths]) in bids.iter().enumerate() {
+        judge_numbers(counts.m, pool, price, quantity, hundredths, i + 1)?;
     }
     Ok(())
 }
