@@ -5,11 +5,11 @@
 ghost use Rattle.std.specs.Prelude.{◌≡◌, ◌<◌, ◌^◌, [], ◌∷◌};
 ghost use Rattle.plan.specs.Orders.{sum, product};
 ghost use Rattle.plan.specs.Running.{subset_block};
-ghost use Rattle.plan.specs.Blocks.{size_block, cut_turn, test_order, cost_turn, amount_block, reach_turn, rest_turn, take_turn, margin_block, greatest_turn, price_block};
+ghost use Rattle.plan.specs.Blocks.{size_block, positive_price_block, cut_turn, test_order, cost_turn, amount_block, reach_turn, rest_turn, take_turn, margin_block, greatest_turn, price_block};
 ghost use Rattle.orders.specs.Named.{name_of, named_of, made, moved};
 
 use crate::names::{
-    Name, NamedOrder, PRICE, QUANTITY, cell, difference, first, less, own, product, sum,
+    HUNDREDTHS, Name, NamedOrder, QUANTITY, cell, difference, first, less, own, product, sum,
 };
 use crate::sets::{is_leaving, other_pools, subset_count};
 use definitions::Counts;
@@ -51,6 +51,17 @@ pub fn size_order(i: usize, turn: usize) -> NamedOrder
     }
 }
 
+// The price of bid i in hundredths, made positive.
+pub fn positive_price_order(i: usize, turn: usize) -> NamedOrder
+    requires { turn < 2 }
+    ensures { named_of result ≡ made (positive_price_block i) turn }
+{
+    match turn {
+        0 => product(own(0), first(WholePrices, i), first(Hundreds, 0)),
+        _ => sum(first(PositivePrices, i), own(0), cell(Bids, i, HUNDREDTHS)),
+    }
+}
+
 // The accepted amount of bid i.
 pub fn amount_order(i: usize, turn: usize) -> NamedOrder
     requires { turn < 4 }
@@ -71,24 +82,28 @@ pub fn margin_order(i: usize, turn: usize) -> NamedOrder
 {
     match turn {
         0 => less(own(0), first(Uses, i), first(Sizes, i)),
-        1 => difference(own(1), first(Shifts, 0), cell(Bids, i, PRICE)),
+        1 => difference(own(1), first(Tops, 0), first(PositivePrices, i)),
         _ => product(first(Margins, i), own(0), own(1)),
     }
 }
 
-// The price and presence of pool p.
+// The price, hundredths and presence of pool p.
 pub fn price_order(p: usize, turn: usize) -> NamedOrder
-    requires { turn < 3 }
+    requires { turn < 7 }
     ensures { named_of result ≡ made (price_block p) turn }
 {
     match turn {
         0 => less(
-            cell(Prices, p, 1),
+            cell(Prices, p, 2),
             first(ZeroCells, 0),
             first(BestMargins, p),
         ),
-        1 => difference(own(0), first(Shifts, 0), first(BestMargins, p)),
-        _ => product(first(Prices, p), own(0), cell(Prices, p, 1)),
+        1 => difference(own(0), first(PoolWholes, p), first(Shifts, 0)),
+        2 => product(first(Prices, p), own(0), cell(Prices, p, 2)),
+        3 => product(own(0), first(PoolWholes, p), first(Hundreds, 0)),
+        4 => difference(own(1), first(Tops, 0), first(BestMargins, p)),
+        5 => difference(own(1), own(1), own(0)),
+        _ => product(cell(Prices, p, 1), own(1), cell(Prices, p, 2)),
     }
 }
 

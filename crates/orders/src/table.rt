@@ -3,17 +3,18 @@
 #![tactic(auto, using(crate::specs::Shaped::one_of, crate::specs::Shaped::of_part, crate::specs::Shaped::of_second, crate::specs::Shaped::one_of_second, crate::specs::Shaped::sum_at, crate::specs::Shaped::head_of, crate::specs::Shaped::cut_at, crate::specs::Shaped::gain_at))]
 
 ghost use Rattle.std.specs.Prelude.{◌≡◌, ◌<◌};
-ghost use Rattle.plan.specs.Table.{scratch_count, phase_at, phase_count, demand_phase, cut_phase, size_before_phase, rank_phase, placement_phase, slack_phase, reach_phase, line_phase, pool_margin_phase, best_margin_phase};
+ghost use Rattle.plan.specs.Table.{scratch_count, phase_at, phase_count, demand_phase, cut_phase, size_before_phase, rank_phase, placement_phase, slack_phase, reach_phase, line_phase, greatest_phase, best_margin_phase};
 ghost use Rattle.plan.specs.Names.{at};
 ghost use Rattle.orders.specs.Named.{named_of};
 ghost use Rattle.orders.specs.Shaped.{IsShape, InPhase, order_in};
 
 use crate::blocks::{
-    added, amount_order, cost_turn, cut_turn, greatest_turn, margin_order, price_order, reach_turn,
-    rest_turn, size_order, subset_order, take_turn, test_order,
+    added, amount_order, cost_turn, cut_turn, greatest_turn, margin_order, positive_price_order,
+    price_order, reach_turn, rest_turn, size_order, subset_order, take_turn, test_order,
 };
 use crate::names::{
-    NamedOrder, PRICE, QUANTITY, SHIFT, cell, difference, equal, first, less, own, product, sum,
+    HUNDRED, NamedOrder, PRICE, QUANTITY, SHIFT, TOP, cell, difference, equal, first, less, own,
+    product, sum,
 };
 use crate::sets::{lowest_pool, subset_count};
 use crate::shape::{NONE, ONE, Shape, Spot, many};
@@ -33,33 +34,38 @@ pub fn shape_of(counts: Counts, scratch: usize, k: usize) -> Shape
     let sets = subset_count(counts);
     match k {
         0 => Shape::new(1, [ONE, NONE, NONE, NONE]), // units
-        1 => Shape::new(1, [ONE, NONE, NONE, NONE]), // shifts
-        2 => Shape::new(m, [ONE, NONE, NONE, NONE]), // pool numbers
-        3 => Shape::new(n, [ONE, NONE, NONE, NONE]), // sides
-        4 => Shape::new(n, [many(1, 3), NONE, NONE, NONE]), // sizes
-        5 => Shape::new(n, [ONE, NONE, NONE, NONE]), // positive prices
-        6 => Shape::new(n, [ONE, NONE, NONE, NONE]), // doubles
-        7 => Shape::new(n, [ONE, NONE, NONE, NONE]), // keys
-        8 => Shape::new(n, [ONE, NONE, NONE, NONE]), // nexts
-        9 => Shape::new(n, [many(m, 1), NONE, NONE, NONE]), // memberships
-        10 => Shape::new(n, [many(m, 1), NONE, NONE, NONE]), // pool sizes
-        11 => Shape::new(m, [ONE, many(n, 2), NONE, NONE]), // demands
-        12 => Shape::new(1, [many(sets, 1), many(sets, 1 + lines), NONE, NONE]), // cuts
-        13 => Shape::new(n, [many(m, 1), many(n, 1 + m * 2), NONE, NONE]), // sizes before
-        14 => Shape::new(n, [many(sets, 1), ONE, many(sets, 5), NONE]), // ranks before
-        15 => Shape::new(n, [many(m, 1), NONE, NONE, NONE]), // sizes with
-        16 => Shape::new(n, [many(sets, 1), ONE, many(sets, 5), NONE]), // ranks with
-        17 => Shape::new(n, [ONE, NONE, NONE, NONE]), // uses
-        18 => Shape::new(n, [many(1, 4), NONE, NONE, NONE]), // amounts
-        19 => Shape::new(m, [ONE, many(n, 2), NONE, NONE]), // placements
-        20 => Shape::new(1, [many(sets, 1), many(sets, 1), NONE, NONE]), // slacks
-        21 => Shape::new(1, [many(sets, 1), NONE, NONE, NONE]), // slack tests
-        22 => Shape::new(lines, [ONE, many(sets, 1), NONE, NONE]), // reach tests
-        23 => Shape::new(lines, [ONE, many(sets, 4), ONE, many(sets, 1)]), // flows
-        24 => Shape::new(n, [many(1, 3), NONE, NONE, NONE]), // margins
-        25 => Shape::new(m, [ONE, many(n, 5), NONE, NONE]), // pool margins
-        26 => Shape::new(m, [ONE, many(m, 5), NONE, NONE]), // best margins
-        27 => Shape::new(m, [many(1, 3), NONE, NONE, NONE]), // prices
+        1 => Shape::new(1, [ONE, NONE, NONE, NONE]), // hundreds
+        2 => Shape::new(1, [ONE, NONE, NONE, NONE]), // shifts
+        3 => Shape::new(1, [ONE, NONE, NONE, NONE]), // tops
+        4 => Shape::new(m, [ONE, NONE, NONE, NONE]), // pool numbers
+        5 => Shape::new(n, [ONE, NONE, NONE, NONE]), // sides
+        6 => Shape::new(n, [many(1, 3), NONE, NONE, NONE]), // sizes
+        7 => Shape::new(n, [ONE, NONE, NONE, NONE]), // whole prices
+        8 => Shape::new(n, [many(1, 2), NONE, NONE, NONE]), // positive prices
+        9 => Shape::new(n, [ONE, NONE, NONE, NONE]), // doubles
+        10 => Shape::new(n, [ONE, NONE, NONE, NONE]), // keys
+        11 => Shape::new(n, [ONE, NONE, NONE, NONE]), // nexts
+        12 => Shape::new(n, [many(m, 1), NONE, NONE, NONE]), // memberships
+        13 => Shape::new(n, [many(m, 1), NONE, NONE, NONE]), // pool sizes
+        14 => Shape::new(m, [ONE, many(n, 2), NONE, NONE]), // demands
+        15 => Shape::new(1, [many(sets, 1), many(sets, 1 + lines), NONE, NONE]), // cuts
+        16 => Shape::new(n, [many(m, 1), many(n, 1 + m * 2), NONE, NONE]), // sizes before
+        17 => Shape::new(n, [many(sets, 1), ONE, many(sets, 5), NONE]), // ranks before
+        18 => Shape::new(n, [many(m, 1), NONE, NONE, NONE]), // sizes with
+        19 => Shape::new(n, [many(sets, 1), ONE, many(sets, 5), NONE]), // ranks with
+        20 => Shape::new(n, [ONE, NONE, NONE, NONE]), // uses
+        21 => Shape::new(n, [many(1, 4), NONE, NONE, NONE]), // amounts
+        22 => Shape::new(m, [ONE, many(n, 2), NONE, NONE]), // placements
+        23 => Shape::new(1, [many(sets, 1), many(sets, 1), NONE, NONE]), // slacks
+        24 => Shape::new(1, [many(sets, 1), NONE, NONE, NONE]), // slack tests
+        25 => Shape::new(lines, [ONE, many(sets, 1), NONE, NONE]), // reach tests
+        26 => Shape::new(lines, [ONE, many(sets, 4), ONE, many(sets, 1)]), // flows
+        27 => Shape::new(n, [many(1, 3), NONE, NONE, NONE]), // margins
+        28 => Shape::new(m, [ONE, many(n, 5), NONE, NONE]), // pool margins
+        29 => Shape::new(m, [ONE, many(m, 5), NONE, NONE]), // best margins
+        30 => Shape::new(n, [many(m, 1), NONE, NONE, NONE]), // price tests
+        31 => Shape::new(m, [ONE, many(n, 5), NONE, NONE]), // pool wholes
+        32 => Shape::new(m, [many(1, 7), NONE, NONE, NONE]), // prices
         _ => Shape::new(1, [many(scratch, 1), NONE, NONE, NONE]), // zeros
     }
 }
@@ -198,22 +204,24 @@ fn lines(counts: Counts, s: Spot) -> NamedOrder
     }
 }
 
-// An order of the greatest margin in a pool.
-fn pool_margins(counts: Counts, s: Spot) -> NamedOrder
-    requires { InPhase (pool_margin_phase counts.n counts.m) s }
-    ensures { named_of result ≡ order_in (pool_margin_phase counts.n counts.m) s }
+// An order of the greatest for a pool, in its row of a family, of the bids' numbers in another, by a family of tests: of the margins of its bids, and of
+// the whole parts of the bids that have its price.
+fn bid_greatest(
+    counts: Counts,
+    greatest: Family,
+    tests: Family,
+    numbers: Family,
+    s: Spot,
+) -> NamedOrder
+    requires { InPhase (greatest_phase counts.n counts.m counts.n (λ p. at greatest p 0) (λ p i. at tests i p) (λ i. at numbers i 0)) s }
+    ensures { named_of result ≡ order_in (greatest_phase counts.n counts.m counts.n (λ p. at greatest p 0) (λ p i. at tests i p) (λ i. at numbers i 0)) s }
 {
-    let margin = first(PoolMargins, s.row);
+    let d = first(greatest, s.row);
     if s.part == 0 {
-        return NamedOrder::Constant(margin, 0);
+        return NamedOrder::Constant(d, 0);
     }
     let bid = s.column;
-    greatest_turn(
-        margin,
-        cell(Memberships, bid, s.row),
-        first(Margins, bid),
-        s.turn,
-    )
+    greatest_turn(d, cell(tests, bid, s.row), first(numbers, bid), s.turn)
 }
 
 // An order of the greatest margin in the pools that reach a pool.
@@ -244,61 +252,70 @@ pub fn order_of(counts: Counts, k: usize, s: Spot) -> NamedOrder
     let i = s.row;
     match k {
         0 => NamedOrder::Constant(first(Units, i), 1),
-        1 => NamedOrder::Constant(first(Shifts, i), SHIFT),
-        2 => NamedOrder::Constant(first(PoolNumbers, i), i + 1),
-        3 => less(
+        1 => NamedOrder::Constant(first(Hundreds, i), HUNDRED),
+        2 => NamedOrder::Constant(first(Shifts, i), SHIFT),
+        3 => NamedOrder::Constant(first(Tops, i), TOP),
+        4 => NamedOrder::Constant(first(PoolNumbers, i), i + 1),
+        5 => less(
             first(Sides, i),
             first(ZeroCells, 0),
             cell(Bids, i, QUANTITY),
         ),
-        4 => size_order(i, s.turn),
-        5 => sum(
-            first(PositivePrices, i),
+        6 => size_order(i, s.turn),
+        7 => sum(
+            first(WholePrices, i),
             cell(Bids, i, PRICE),
             first(Shifts, 0),
         ),
-        6 => sum(
+        8 => positive_price_order(i, s.turn),
+        9 => sum(
             first(Doubles, i),
             first(PositivePrices, i),
             first(PositivePrices, i),
         ),
-        7 => sum(first(Keys, i), first(Doubles, i), first(Sides, i)),
-        8 => sum(first(Nexts, i), first(Doubles, i), first(Units, 0)),
-        9 => equal(
+        10 => sum(first(Keys, i), first(Doubles, i), first(Sides, i)),
+        11 => sum(first(Nexts, i), first(Doubles, i), first(Units, 0)),
+        12 => equal(
             cell(Memberships, i, s.column),
             first(Bids, i),
             first(PoolNumbers, s.column),
         ),
-        10 => product(
+        13 => product(
             cell(PoolSizes, i, s.column),
             cell(Memberships, i, s.column),
             first(Sizes, i),
         ),
-        11 => demands(counts, s),
-        12 => cuts(counts, s),
-        13 => sizes_before(counts, s),
-        14 => ranks(counts, SizesBefore, RanksBefore, s),
-        15 => sum(
+        14 => demands(counts, s),
+        15 => cuts(counts, s),
+        16 => sizes_before(counts, s),
+        17 => ranks(counts, SizesBefore, RanksBefore, s),
+        18 => sum(
             cell(SizesWith, i, s.column),
             cell(SizesBefore, i, s.column),
             cell(PoolSizes, i, s.column),
         ),
-        16 => ranks(counts, SizesWith, RanksWith, s),
-        17 => difference(first(Uses, i), first(RanksWith, i), first(RanksBefore, i)),
-        18 => amount_order(i, s.turn),
-        19 => placements(counts, s),
-        20 => slacks(counts, s),
-        21 => less(
+        19 => ranks(counts, SizesWith, RanksWith, s),
+        20 => difference(first(Uses, i), first(RanksWith, i), first(RanksBefore, i)),
+        21 => amount_order(i, s.turn),
+        22 => placements(counts, s),
+        23 => slacks(counts, s),
+        24 => less(
             first(SlackTests, s.column),
             first(ZeroCells, 0),
             first(Slacks, s.column),
         ),
-        22 => reach_tests(counts, s),
-        23 => lines(counts, s),
-        24 => margin_order(i, s.turn),
-        25 => pool_margins(counts, s),
-        26 => best_margins(counts, s),
-        27 => price_order(i, s.turn),
+        25 => reach_tests(counts, s),
+        26 => lines(counts, s),
+        27 => margin_order(i, s.turn),
+        28 => bid_greatest(counts, PoolMargins, Memberships, Margins, s),
+        29 => best_margins(counts, s),
+        30 => equal(
+            cell(PriceTests, i, s.column),
+            first(Margins, i),
+            first(BestMargins, s.column),
+        ),
+        31 => bid_greatest(counts, PoolWholes, PriceTests, WholePrices, s),
+        32 => price_order(i, s.turn),
         _ => NamedOrder::Constant(own(s.column), 0),
     }
 }

@@ -13,7 +13,7 @@ many-requires-in_default-clause-few c =
 pub returns-in_default : goal.returns-in_default
 unfolding phase_at table work
 returns-in_default c =
-    let last : c.args.k ≡ 28 = omega arith in
+    let last : c.args.k ≡ 33 = omega arith in
     let k = c.args.counts in
-    shape_known k.n k.m c.args.k 28 _ _ _ _ _ last c.new-in_default.ensures.0 c.new-in_default.ensures.1 (omega arith)
+    shape_known k.n k.m c.args.k 33 _ _ _ _ _ last c.new-in_default.ensures.0 c.new-in_default.ensures.1 (omega arith)
     (omega (arith, c.many-in_default.ensures, c.requires.scratch_value), c.many-in_default.ensures.1) (refl, refl) (refl, refl) (refl, refl)
