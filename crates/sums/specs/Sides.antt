@@ -4,10 +4,10 @@ use Rattle.std.proofs.Common.{arith, add-one}
 use Rattle.std.specs.Int.Signed.{lt_z}
 use Rattle.sums.specs.declared.side.Side.{Side}
 use Rattle.sums.specs.declared.side.Side.TheVariants.{Sales, Purchases}
-use Rattle.definitions.specs.Limits.{quantity_limit}
-use Rattle.definitions.specs.Book.{price, quantity}
+use Rattle.definitions.specs.Limits.{hundred, quantity_limit}
+use Rattle.definitions.specs.Book.{in_hundredths, price, quantity}
 use Rattle.definitions.specs.RunningSum.{running_sum, sum_of_sales, sum_with_purchases, sales_welfare}
-use Rattle.laws.specs.IntegerSize.{size_neg, size_product}
+use Rattle.laws.specs.IntegerSize.{size_neg, size_add, size_product}
 use Rattle.sums.specs.BidsOnly.{bids_only}
 
 -- a bid of this quantity is on the side asked for
@@ -20,7 +20,7 @@ abbrev pub side_value : Side → ℤ → ℤ
 side_value Sales value = neg_ℤ value
 side_value Purchases value = value
 
--- what one bid adds to the sum of a side: price × accepted, 0 if it is on the other side
+-- what one bid adds to the sum of a side: price × accepted, the price in hundredths, 0 if it is on the other side
 abbrev pub side_part : Side → (price quantity : ℤ) (accepted : ℕ) → ℤ
 side_part side price quantity accepted = cond (on_side side quantity) (side_value side (price *ℤ pos accepted)) (pos 0)
 
@@ -58,11 +58,18 @@ one_side price quantity accepted = go (lt_z (pos 0) quantity) (price *ℤ pos ac
     go true v = omega arith
     go false v = omega (arith, size_neg v)
 
--- no bid adds more: a price is a 32-bit number
-abbrev pub value_limit : ℕ
-value_limit = 2 ^ 31 * quantity_limit
+-- no price in hundredths is greater: its parts are 32-bit numbers
+abbrev pub price_bound : ℕ
+price_bound = (hundred + 1) * 2 ^ 31
 
-pub part_small : (side : Side) (price quantity : ℤ) (accepted : ℕ) → nat_abs price ≤ 2 ^ 31 → accepted ≤ quantity_limit
+pub price_bounded : (whole hundredths : ℤ) → nat_abs whole ≤ 2 ^ 31 → nat_abs hundredths ≤ 2 ^ 31 → nat_abs (in_hundredths whole hundredths) ≤ price_bound
+price_bounded whole hundredths h k = omega (arith, size_add (whole *ℤ pos hundred) hundredths, size_product whole (pos hundred) (2 ^ 31) hundred h (omega arith), k)
+
+-- no bid adds more
+abbrev pub value_limit : ℕ
+value_limit = price_bound * quantity_limit
+
+pub part_small : (side : Side) (price quantity : ℤ) (accepted : ℕ) → nat_abs price ≤ price_bound → accepted ≤ quantity_limit
     → nat_abs (side_part side price quantity accepted) ≤ value_limit
-part_small Sales price quantity accepted h l = omega (arith, one_side price quantity accepted, size_product price (pos accepted) (2 ^ 31) quantity_limit h l)
-part_small Purchases price quantity accepted h l = omega (arith, one_side price quantity accepted, size_product price (pos accepted) (2 ^ 31) quantity_limit h l)
+part_small Sales price quantity accepted h l = omega (arith, one_side price quantity accepted, size_product price (pos accepted) price_bound quantity_limit h l)
+part_small Purchases price quantity accepted h l = omega (arith, one_side price quantity accepted, size_product price (pos accepted) price_bound quantity_limit h l)

@@ -54,8 +54,8 @@ pub fn pool_sums(m: usize, p: usize, bids: &[i32], amounts: &[i32], flows: &[i32
     fitting_sums(m, p, bids, amounts, flows)
 }
 
-// The welfare of accepted amounts, summed sales first: that of the sales alone, which is the running sum after the last sale, and the whole by formula
-// (1) of document 003, at which the sum ends.
+// The welfare of accepted amounts, in hundredths, summed sales first: that of the sales alone, which is the running sum after the last sale, and the
+// whole by formula (1) of document 003, at which the sum ends.
 #[derive(Clone, Copy, Default)]
 pub struct WelfareSums {
     pub sales: i64,

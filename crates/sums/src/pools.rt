@@ -43,7 +43,7 @@ pub fn side_in(side: Side, p: usize, table: &[i32], amounts: &[i32]) -> usize
     let number = p as i32 + 1;
     let (bids, _) = table.as_chunks::<{ Limits::BID_NUMBERS }>();
     let mut total = 0;
-    for (i, &[pool, _, quantity]) in bids.iter().enumerate() {
+    for (i, &[pool, _, quantity, _]) in bids.iter().enumerate() {
         let amount = amounts[i];
         let part = amount_in(side, number, pool, quantity, amount);
         total += part;

@@ -1,6 +1,7 @@
 // The welfare of accepted amounts: whether it can be summed, and its sum, sales first; the sizes of amounts sent as signed numbers.
 ghost use Rattle.std.specs.Prelude.{◌≡◌, map, ◌+◌, ◌*◌, ◌≤◌, length, nat_abs};
 ghost use Rattle.definitions.specs.Limits.{bid_limit, quantity_limit};
+ghost use Rattle.definitions.specs.Book.{in_hundredths};
 ghost use Rattle.definitions.specs.Clearing as clearing;
 ghost use Rattle.definitions.specs.RunningSum.{sales_welfare};
 ghost use Rattle.sums.specs.Sides.{side_part, sum_of_side, value_limit};
@@ -10,15 +11,23 @@ use crate::WelfareSums;
 use crate::side::Side;
 use definitions::Limits;
 
-// What one bid adds to the sum of a side, 0 if it is on the other: price × accepted, which is taken off for a sale.
-fn part_of(side: Side, price: i32, quantity: i32, accepted: u32) -> i64
+// A price in hundredths. In 64 bits it fits for any two numbers.
+fn price_in_hundredths(price: i32, hundredths: i32) -> i64
+    ensures { result ≡ in_hundredths price hundredths }
+{
+    price as i64 * Limits::HUNDRED as i64 + hundredths as i64
+}
+
+// What one bid adds to the sum of a side, 0 if it is on the other: its price in hundredths × accepted, which is taken off for a sale. The bid's numbers
+// come as the table has them.
+fn part_of(side: Side, price: i32, quantity: i32, hundredths: i32, accepted: u32) -> i64
     requires { accepted ≤ quantity_limit }
-    ensures { result ≡ side_part side price quantity accepted }
+    ensures { result ≡ side_part side (in_hundredths price hundredths) quantity accepted }
 {
     if !side.has(quantity) {
         return 0;
     }
-    let value = price as i64 * accepted as i64;
+    let value = price_in_hundredths(price, hundredths) * accepted as i64;
     match side {
         Side::Sales => -value,
         Side::Purchases => value,
@@ -53,8 +62,8 @@ fn add_side(side: Side, table: &[i32], accepted: &[u32], start: i64) -> i64
 {
     let (bids, _) = table.as_chunks::<{ Limits::BID_NUMBERS }>();
     let mut total = start;
-    for (i, &[_, price, quantity]) in bids.iter().enumerate() {
-        let part = part_of(side, price, quantity, accepted[i]);
+    for (i, &[_, price, quantity, hundredths]) in bids.iter().enumerate() {
+        let part = part_of(side, price, quantity, hundredths, accepted[i]);
         total += part;
     }
     total

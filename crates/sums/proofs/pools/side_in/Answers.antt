@@ -6,7 +6,7 @@ use Rattle.definitions.specs.Limits.{pool_limit, bid_numbers, quantity_place}
 use Rattle.definitions.specs.Arithmetic.{on, sum_to}
 use Rattle.laws.specs.IntegerSize.{fits_size, size_fits}
 use Rattle.laws.specs.SignedTests.{back}
-use Rattle.laws.specs.BidTable.{pool_read, quantity_read}
+use Rattle.laws.specs.BidTable.{pool_read, number_read}
 use Rattle.laws.specs.Tests.{on_le}
 use Rattle.sums.specs.declared.side.Side.{Side}
 use Rattle.sums.specs.Pools.{stands, added_by, side_in}
@@ -35,7 +35,7 @@ part_is c =
     c.amount_in-part.ensures
     ∙ moved a.side (ap (λ (z : ℤ). to_z w32 (of_z w32 z)) (next_pool a.p few) ∙ to_z-of_z (fits_size w32 (pos (suc a.p)) (omega (arith, few))))
     (pool_read a.table.now front.front front.front_len i c.loop-i-test.true c.pool-1.given)
-    (quantity_read a.table.now front.front front.front_len i c.loop-i-test.true c.quantity-1.given)
+    (number_read a.table.now front.front front.front_len i c.loop-i-test.true quantity_place (omega arith) c.quantity-1.given)
     (back w32 (get_or a.amounts.now i (pos 0)) c.amount-1.given)
 
 part_small : (c : After-amount_in-part) → c.amount_in-part.result ≤ 2 ^ 31
