@@ -5,6 +5,7 @@
 ghost use Rattle.std.specs.Prelude.{◌≡◌, ◌+◌, ◌*◌, ◌<◌, ◌≤◌};
 ghost use Rattle.definitions.specs.Limits.{bid_limit, pool_limit, bid_numbers};
 ghost use Rattle.definitions.specs.Answers.{stated, number_of, place_of, parts_of};
+ghost use Rattle.definitions.specs.Book.{in_hundredths};
 ghost use Rattle.definitions.specs.Sheet.{first_result, result_count};
 
 use std::error::Error;
@@ -52,6 +53,13 @@ impl Limits {
 
     // How many results a pool has: its price, its hundredths and its presence.
     pub const POOL_RESULTS: usize = 3;
+}
+
+// A price in hundredths, from its two parts. In 64 bits it fits for any two numbers.
+pub fn price_in_hundredths(price: i32, hundredths: i32) -> i64
+    ensures { result ≡ in_hundredths price hundredths }
+{
+    price as i64 * Limits::HUNDRED as i64 + hundredths as i64
 }
 
 // An order of the machine: its target cell d, then a constant or the two cells that it reads. Document 01 names this form.

@@ -5,11 +5,11 @@ ghost use Rattle.std.specs.Prelude.{◌≡◌, [], ◌*◌, ◌≤◌, length, I
 ghost use Rattle.definitions.specs.Limits.{pool_limit, bid_numbers};
 ghost use Rattle.definitions.specs.Arithmetic.{within};
 ghost use Rattle.definitions.specs.Answers.{refusal_of, numbered};
-ghost use Rattle.definitions.specs.Book.{book, book_of, in_hundredths};
+ghost use Rattle.definitions.specs.Book.{book, book_of};
 ghost use Rattle.definitions.specs.Calls.{pools_refusal, counts_refusal, price_in_range, bid_fault, bid_refusal, bids_refusal, capacity_fault, capacities_refusal, seal_refusal, cells_refusal, results_refusal};
 ghost use Rattle.judging.specs.Tables.{tables_refusal};
 
-use definitions::{Counts, LentBook, Limits, Reason, Verdict};
+use definitions::{Counts, LentBook, Limits, Reason, Verdict, price_in_hundredths};
 
 // The pool count: 2.
 fn judge_pools(m: usize) -> Verdict
@@ -63,13 +63,6 @@ fn is_within(low: i32, high: i32, v: i32) -> bool
     ensures { result ≡ within low high v }
 {
     (low..=high).contains(&v)
-}
-
-// A price in hundredths. In 64 bits it fits for any two numbers.
-fn price_in_hundredths(price: i32, hundredths: i32) -> i64
-    ensures { result ≡ in_hundredths price hundredths }
-{
-    price as i64 * Limits::HUNDRED as i64 + hundredths as i64
 }
 
 // A limit price: its whole part, its hundredths, and then both together.

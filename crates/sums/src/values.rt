@@ -9,14 +9,7 @@ ghost use Rattle.sums.specs.SummedWelfare.{AmountsFit, amounts_small, amounts_fi
 
 use crate::WelfareSums;
 use crate::side::Side;
-use definitions::Limits;
-
-// A price in hundredths. In 64 bits it fits for any two numbers.
-fn price_in_hundredths(price: i32, hundredths: i32) -> i64
-    ensures { result ≡ in_hundredths price hundredths }
-{
-    price as i64 * Limits::HUNDRED as i64 + hundredths as i64
-}
+use definitions::{Limits, price_in_hundredths};
 
 // What one bid adds to the sum of a side, 0 if it is on the other: its price in hundredths × accepted, which is taken off for a sale. The bid's numbers
 // come as the table has them.
