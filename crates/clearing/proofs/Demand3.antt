@@ -5,7 +5,7 @@ use Rattle.definitions.specs.Limits.{cell_count}
 use Rattle.definitions.specs.Book.{Book}
 use Rattle.definitions.specs.Sheet.{sealed_sheet}
 use Rattle.definitions.specs.Clearing.{welfare}
-use Rattle.definitions.specs.PoolPrice.{pool_price, price_residue, presence}
+use Rattle.definitions.specs.PoolPrice.{pool_price, price_residue, hundredths_residue, presence}
 use Rattle.definitions.specs.Machine.{AllWellFormed}
 use Rattle.definitions.specs.Answers.{Refusal, none, unless}
 use Rattle.definitions.specs.Bytes.{orders_bytes}
@@ -58,7 +58,7 @@ module _ (A : Book) (accepted : AcceptedBook A) where
         sales_given = λ c b. given_sum sales_welfare ∙ sales_of_best A accepted (result_of A (plan_run plan A)) c outcome.best b;
         prices_given = λ c b p l.
             let same : pool_price A (result_of A (plan_run plan A)) p ≡ pool_price A c p = price_of_best A accepted (result_of A (plan_run plan A)) c outcome.best b p l in
-            (outcome.prices p l ∙ ap price_residue same, outcome.presences p l ∙ ap presence same);
+            (outcome.prices p l ∙ ap price_residue same, outcome.hundredths p l ∙ ap hundredths_residue same, outcome.presences p l ∙ ap presence same);
       }
 
 -- a book is cleared by the plan of another of the same counts

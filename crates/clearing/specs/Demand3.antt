@@ -4,9 +4,9 @@ use Rattle.std.specs.Prelude.{ℕ, ◌≤◌, ◌<◌, ◌≡◌, List, length, 
 use Rattle.definitions.specs.declared.Order.{Order}
 use Rattle.definitions.specs.Limits.{cell_count}
 use Rattle.definitions.specs.Book.{Book}
-use Rattle.definitions.specs.Sheet.{sealed_sheet, price_cell, presence_cell}
+use Rattle.definitions.specs.Sheet.{sealed_sheet, price_cell, hundredths_cell, presence_cell}
 use Rattle.definitions.specs.Clearing.{Clearing, Feasible, Best, welfare}
-use Rattle.definitions.specs.PoolPrice.{pool_price, price_residue, presence}
+use Rattle.definitions.specs.PoolPrice.{pool_price, price_residue, hundredths_residue, presence}
 use Rattle.definitions.specs.Machine.{AllWellFormed, cell, run_of}
 use Rattle.definitions.specs.Bytes.{orders_bytes}
 use Rattle.definitions.specs.Plan.{asked, ended, collected}
@@ -38,10 +38,12 @@ pub record ClearedBy (orders : List Order) (A : Book) : Type 0 where
   -- the prices left are those of each best clearing, whichever flows were chosen (document 02, request 4)
   pub prices_given : (c : Clearing) → Best A c → (p : ℕ) → p < A.m
       → (cell (run_of orders (sealed_sheet A)) (price_cell A.n A.m p) ≡ price_residue (pool_price A c p))
+      × (cell (run_of orders (sealed_sheet A)) (hundredths_cell A.n A.m p) ≡ hundredths_residue (pool_price A c p))
       × (cell (run_of orders (sealed_sheet A)) (presence_cell A.n A.m p) ≡ presence (pool_price A c p))
 
 -- "Take every two books A and B that sealing accepts, with equal bid counts and equal pool counts. .. the plan is the same list of orders for
--- both, byte for byte. .. and reports the same count for both. .. for n bids and m pools it is at most n × (100 × n + 40 × (m+1)^6) + 10,000."
+-- both, byte for byte. .. and reports the same count for both. .. for n bids and m pools it is at most n × (100 × n + 40 × (m+1)^6) + 10,000", in
+-- which "100 × n becomes 200 × n" (document 02, request 5).
 pub record OnePlan (A B : Book) : Type 0 where
   pub orders : List Order
   -- orders of document 01's machine: kinds, cells and constants within their limits

@@ -37,7 +37,8 @@ module _ (B : Book) (accepted : AcceptedBook B) where
     best = clearing.0;
     permitted = clearing.1;
     prices = λ p l. cleared.price_cells_lem p l ∙ sym (closed_price_lem B accepted (result_of B left) clearing.0 p l).0;
-    presences = λ p l. cleared.presence_cells p l ∙ sym (closed_price_lem B accepted (result_of B left) clearing.0 p l).1;
+    hundredths = λ p l. cleared.hundredths_cells p l ∙ sym (closed_price_lem B accepted (result_of B left) clearing.0 p l).1;
+    presences = λ p l. cleared.presence_cells p l ∙ sym (closed_price_lem B accepted (result_of B left) clearing.0 p l).2;
     scratch = cleared.scratch_zero;
   }
 

@@ -17,7 +17,7 @@ use Rattle.laws.specs.SameAmounts.{welfare_same}
 use Rattle.theory.proofs.ClosedBest.{closed_accepted}
 use Rattle.theory.proofs.PoolPrice.{closed_pool_price}
 use Rattle.theory.specs.BestClearing.{best_exists}
-use Rattle.examples.specs.Examples.{listed, Cleared, Edges, ProvedExamples}
+use Rattle.examples.specs.Examples.{listed, Cleared, Edges, book_of_two_offers, ProvedExamples}
 
 listed_same : {A : Type 0} (n : ℕ) (f h : ℕ → A) → ((i : ℕ) → i < n → f i ≡ h i) → listed n f ≡ listed n h
 unfolding listed
@@ -89,12 +89,18 @@ edges_hold = record {
   price_is_5 = refl;
   quantity_passes = refl;
   quantity_is_6 = refl;
+  hundredths_pass = refl;
+  hundredths_are_5 = refl;
+  negative_hundredths_are_5 = refl;
+  above_is_5 = refl;
+  before_6 = refl;
+  after_4 = refl;
   bids_pass = refl;
   bids_are_1 = refl;
 }
 
 pub proved_examples : ProvedExamples
-unfolding book_one book_two book_three book_four book_five book_six book_seven listed seal_refusal bids_refusal capacities_refusal row_refusal first_from member subset_sum demand cut size_before size_with rank used_amount accepted_amount before sum_to all_to min_to placement slack reached supplied least_price welfare sum_z order_bytes number_bytes groups
+unfolding book_one book_two book_three book_four book_five book_six book_seven book_of_two_offers listed seal_refusal bids_refusal capacities_refusal row_refusal first_from member subset_sum demand cut size_before size_with rank used_amount accepted_amount before sum_to all_to min_to placement slack reached supplied least_price welfare sum_z order_bytes number_bytes groups
 proved_examples = record {
   one = cleared book_one _ _ _ _ refl refl (λ c q e. no_line c (q.feasible.flows 0 0 (omega arith) (omega arith))) refl refl;
   two = cleared book_two _ _ _ _ refl refl (λ c q e. two_flows c q (e 0 (omega arith))) refl refl;
@@ -103,6 +109,8 @@ proved_examples = record {
   five = cleared book_five _ _ _ _ refl refl (λ c q e. no_line c (q.feasible.flows 0 0 (omega arith) (omega arith))) refl refl;
   six = cleared book_six _ _ _ _ refl refl (λ c q e. six_flows c q (e 0 (omega arith)) (e 2 (omega arith))) refl refl;
   seven = cleared book_seven _ _ _ _ refl refl (λ c q e. seven_flows c q) refl refl;
+  two_offers = cleared book_of_two_offers _ _ _ _ refl refl (λ c q e. no_line c (q.feasible.flows 0 0 (omega arith) (omega arith))) refl refl;
+  minus_three = refl;
   eight = refl;
   nine = refl;
   ten = refl;

@@ -16,7 +16,7 @@ use Rattle.examples.proofs.Examples.{cleared}
 -- "m 4, lines 1 to 2, 2 to 4, 1 to 3 and 3 to 4 carry 4, else 0; (1,10,−4), (2,20,−4), (4,30,8)"
 unfoldable pub book_rerouted : Book
 book_rerouted =
-    book 3 4 (pos 1 ∷ pos 10 ∷ neg_ℤ (pos 4) ∷ pos 2 ∷ pos 20 ∷ neg_ℤ (pos 4) ∷ pos 4 ∷ pos 30 ∷ pos 8 ∷ [])
+    book 3 4 (pos 1 ∷ pos 10 ∷ neg_ℤ (pos 4) ∷ pos 0 ∷ pos 2 ∷ pos 20 ∷ neg_ℤ (pos 4) ∷ pos 0 ∷ pos 4 ∷ pos 30 ∷ pos 8 ∷ pos 0 ∷ [])
     (pos 0 ∷ pos 4 ∷ pos 4 ∷ pos 0 ∷ pos 0 ∷ pos 0 ∷ pos 0 ∷ pos 4 ∷ pos 0 ∷ pos 0 ∷ pos 0 ∷ pos 4 ∷ pos 0 ∷ pos 0 ∷ pos 0 ∷ pos 0 ∷ [])
 
 rerouted_flows : (c : Clearing) → Permitted book_rerouted c → c.accepted 0 ≡ 4 → c.accepted 2 ≡ 8
@@ -43,6 +43,6 @@ rerouted_flows c q x y =
 
 -- "accepted are 4, 4, 8"
 pub rerouted : Cleared book_rerouted (4 ∷ 4 ∷ 8 ∷ []) (0 ∷ 0 ∷ 4 ∷ 0 ∷ 0 ∷ 0 ∷ 0 ∷ 4 ∷ 0 ∷ 0 ∷ 0 ∷ 4 ∷ 0 ∷ 0 ∷ 0 ∷ 0 ∷ [])
-    (present (pos 30) ∷ present (pos 30) ∷ present (pos 30) ∷ present (pos 30) ∷ []) (pos 120)
+    (present (pos 30) (pos 0) ∷ present (pos 30) (pos 0) ∷ present (pos 30) (pos 0) ∷ present (pos 30) (pos 0) ∷ []) (pos 12000)
 unfolding book_rerouted listed seal_refusal bids_refusal capacities_refusal row_refusal first_from member subset_sum demand cut size_before size_with rank used_amount accepted_amount before sum_to all_to min_to placement slack reached supplied least_price welfare sum_z
 rerouted = cleared book_rerouted _ _ _ _ refl refl (λ c q e. rerouted_flows c q (e 0 (omega arith)) (e 2 (omega arith))) refl refl
