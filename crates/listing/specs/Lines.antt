@@ -2,7 +2,7 @@
 use Rattle.std.specs.Prelude.{ℕ, zero, suc, ◌+◌, ◌≤◌, ◌<◌, ◌≡◌, ◌⊎◌, refl, List, ◌++◌, length, ℤ}
 use Rattle.std.proofs.Common.{SFits, to_z, of_z, w32, w64, ◌∙◌, ap, arith, add-one, inl, inr, eq-or-lt_of_le, length-append}
 use Rattle.definitions.specs.Arithmetic.{join_to}
-use Rattle.definitions.specs.Calls.{result_at, flow_place, pool_place, presence_place}
+use Rattle.definitions.specs.Calls.{result_at, flow_place, pool_place, pool_hundredths_place, presence_place}
 use Rattle.definitions.specs.Settle.{decimal_z, space, newline, bid_line, flow_line, price_line}
 use Rattle.laws.specs.SignedTests.{widened}
 use Rattle.listing.specs.declared.page.Page.{Page}
@@ -30,7 +30,8 @@ row_lines n m a results = join_to m (flow_at n m a results)
 
 -- the line of pool p's price
 abbrev pub price_at : (n m : ℕ) → List ℤ → ℕ → List ℕ
-price_at n m results p = price_line (p + 1) (result_at results (pool_place n m p)) (result_at results (presence_place n m p))
+price_at n m results p =
+    price_line (p + 1) (result_at results (pool_place n m p)) (result_at results (pool_hundredths_place n m p)) (result_at results (presence_place n m p))
 
 pub lines_next : (k : ℕ) (line : ℕ → List ℕ) → join_to (k + 1) line ≡ join_to k line ++ line k
 unfolding join_to

@@ -1,22 +1,30 @@
--- A pool's price as the code has it, none where it is missing (`priced`), and that its line is the one of document 01 (`price_shown`).
+-- A pool's price as the code has it, in hundredths, none where it is missing (`priced`), and that its line is the one of document 02 (`price_shown`).
 use Rattle.std.specs.Prelude.{ℕ, ◌≡◌, refl, Bool, true, false, cond, List, ◌++◌, ℤ, pos, Some, None}
 use Rattle.std.specs.declared.option.Option.{Option}
 use Rattle.std.specs.Int.Signed.{lt_z}
+use Rattle.definitions.specs.Book.{in_hundredths}
 use Rattle.definitions.specs.Settle.{decimal, decimal_z, space, newline, price_word, none_word, price_line}
 
 -- a pool's price, none unless its presence is above 0
-abbrev pub priced : (price presence : ℤ) → Option ℤ
-priced price presence = cond (lt_z (pos 0) presence) (Some price) None
+abbrev pub priced : (price hundredths presence : ℤ) → Option ℤ
+priced price hundredths presence = cond (lt_z (pos 0) presence) (Some (in_hundredths price hundredths)) None
+
+-- its text
+abbrev pub shown : Option ℤ → List ℕ
+shown (Some price) = decimal_z price
+shown None = none_word
 
 -- its line
 abbrev pub pool_line : (pool : ℕ) → Option ℤ → List ℕ
-pool_line pool (Some price) = price_line pool price (pos 1)
-pool_line pool None = price_line pool (pos 0) (pos 0)
+pool_line pool price = price_word ++ (space ++ (decimal pool ++ (space ++ (shown price ++ newline))))
 
-pub price_shown : (pool : ℕ) (price presence : ℤ) → pool_line pool (priced price presence) ≡ price_line pool price presence
+pub price_shown : (pool : ℕ) (price hundredths presence : ℤ) → pool_line pool (priced price hundredths presence) ≡ price_line pool price hundredths presence
 unfolding price_line
-price_shown pool price presence = go (lt_z (pos 0) presence)
+price_shown pool price hundredths presence = go (lt_z (pos 0) presence) (in_hundredths price hundredths)
   where
-    go : (t : Bool) → pool_line pool (cond t (Some price) None) ≡ price_word ++ (space ++ (decimal pool ++ (space ++ (cond t (decimal_z price) none_word ++ newline))))
-    go true = refl
-    go false = refl
+    line : List ℕ → List ℕ
+    line text = price_word ++ (space ++ (decimal pool ++ (space ++ (text ++ newline))))
+
+    go : (t : Bool) (z : ℤ) → line (shown (cond t (Some z) None)) ≡ line (cond t (decimal_z z) none_word)
+    go true z = refl
+    go false z = refl

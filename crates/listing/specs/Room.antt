@@ -4,6 +4,7 @@ use Rattle.std.proofs.Common.{arith, length-append}
 use Rattle.std.specs.Int.Signed.{lt_z}
 use Rattle.definitions.specs.Limits.{bid_limit, pool_limit}
 use Rattle.definitions.specs.Arithmetic.{join_to}
+use Rattle.definitions.specs.Book.{in_hundredths}
 use Rattle.definitions.specs.Settle.{decimal, decimal_z, newline, none_word, bid_line, flow_line, price_text, price_line, welfare_line, bid_lines, flow_lines, price_lines, listing, refused_text}
 use Rattle.listing.specs.Digits.{decimal_length, signed_length, two_digits}
 use Rattle.listing.specs.Lines.{last_field, bid_at, flow_at, price_at, row_lines}
@@ -34,22 +35,22 @@ flow_length from to z = go (lt_z (pos 0) z)
         )
     go false = omega arith
 
-price_text_length : (price presence : ℤ) → length (price_text price presence) ≤ 21
-price_text_length price presence = go (lt_z (pos 0) presence)
+price_text_length : (price hundredths presence : ℤ) → length (price_text price hundredths presence) ≤ 21
+price_text_length price hundredths presence = go (lt_z (pos 0) presence)
   where
-    go : (t : Bool) → length (cond t (decimal_z price) none_word) ≤ 21
-    go true = signed_length price
+    go : (t : Bool) → length (cond t (decimal_z (in_hundredths price hundredths)) none_word) ≤ 21
+    go true = signed_length (in_hundredths price hundredths)
     go false = omega arith
 
-price_length : (pool : ℕ) (price presence : ℤ) → length (price_line pool price presence) ≤ 49
+price_length : (pool : ℕ) (price hundredths presence : ℤ) → length (price_line pool price hundredths presence) ≤ 49
 unfolding price_line
-price_length pool price presence =
+price_length pool price hundredths presence =
     omega (
       arith,
-      length-append (decimal pool) (32 ∷ (price_text price presence ++ newline)),
-      length-append (price_text price presence) newline,
+      length-append (decimal pool) (32 ∷ (price_text price hundredths presence ++ newline)),
+      length-append (price_text price hundredths presence) newline,
       decimal_length pool,
-      price_text_length price presence,
+      price_text_length price hundredths presence,
     )
 
 welfare_length : (w : ℤ) → length (welfare_line w) ≤ 30
@@ -78,7 +79,7 @@ flows_length n m results h = lines_length m 276 (λ a. row_lines n m a results) 
 
 prices_length : (n m : ℕ) (results : List ℤ) → length (price_lines n m results) ≤ m * 49
 unfolding price_lines
-prices_length n m results = lines_length m 49 (price_at n m results) (λ p l. price_length (p + 1) _ _)
+prices_length n m results = lines_length m 49 (price_at n m results) (λ p l. price_length (p + 1) _ _ _)
 
 -- of any results and any welfare
 pub listing_fits : (n m : ℕ) (results : List ℤ) (w : ℤ) → n ≤ bid_limit → m ≤ pool_limit → length (listing n m results w) ≤ text_room

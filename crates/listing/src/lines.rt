@@ -31,13 +31,13 @@ impl Page<'_> {
         }
     }
 
-    // A pool's line: its price, or `none`.
-    pub(crate) fn put_price(&mut self, pool: usize, price: Option<i32>)
+    // A pool's line: its price in hundredths, or `none`.
+    pub(crate) fn put_price(&mut self, pool: usize, price: Option<i64>)
         ensures { Wrote self.old (pool_line pool price) self.new }
     {
         self.put_field(b"price ", pool);
         match price {
-            Some(price) => self.put_last(i64::from(price)),
+            Some(price) => self.put_last(price),
             None => self.put(b" none\n"),
         }
     }

@@ -1,17 +1,26 @@
 // The opened results of a book, read by bid, line and pool.
 ghost use Rattle.std.specs.Prelude.{◌≡◌, ◌<◌, length};
-ghost use Rattle.definitions.specs.Calls.{result_at, flow_place, pool_place, presence_place};
+ghost use Rattle.definitions.specs.Book.{in_hundredths};
+ghost use Rattle.definitions.specs.Calls.{result_at, flow_place, pool_place, pool_hundredths_place, presence_place};
 ghost use Rattle.definitions.specs.Sheet.{result_count};
 ghost use Rattle.listing.specs.Prices.{priced};
 
 use definitions::{Counts, Limits};
 
-// The opened results of a book of these counts, as they are lent: accepted amounts, flows by rows, and each pool's price and presence.
+// The opened results of a book of these counts, as they are lent: accepted amounts, flows by rows, and each pool's price, hundredths and
+// presence.
 #[derive(Clone, Copy)]
 pub(crate) struct Results<'a> {
     pub(crate) counts: Counts,
     pub(crate) numbers: &'a [i32],
     ghost complete: { length numbers.now ≡ result_count counts.n counts.m },
+}
+
+// A price in hundredths. In 64 bits it fits for any two results that are lent.
+fn price_in_hundredths(price: i32, hundredths: i32) -> i64
+    ensures { result ≡ in_hundredths price hundredths }
+{
+    price as i64 * Limits::HUNDRED as i64 + hundredths as i64
 }
 
 impl Results<'_> {
@@ -31,13 +40,14 @@ impl Results<'_> {
         self.numbers[self.counts.n + (a * self.counts.m + b)]
     }
 
-    // Pool p's price, where it has one.
-    pub(crate) fn price(&self, p: usize) -> Option<i32>
+    // Pool p's price in hundredths, where it has one.
+    pub(crate) fn price(&self, p: usize) -> Option<i64>
         requires { p < self.now.counts.m }
-        ensures { result ≡ priced (result_at self.now.numbers.now (pool_place self.now.counts.n self.now.counts.m p)) (result_at self.now.numbers.now (presence_place self.now.counts.n self.now.counts.m p)) }
+        ensures { result ≡ priced (result_at self.now.numbers.now (pool_place self.now.counts.n self.now.counts.m p)) (result_at self.now.numbers.now (pool_hundredths_place self.now.counts.n self.now.counts.m p)) (result_at self.now.numbers.now (presence_place self.now.counts.n self.now.counts.m p)) }
     {
         let at = self.counts.n + self.counts.lines() + Limits::POOL_RESULTS * p;
-        let presence = self.numbers[at + 1];
-        (0 < presence).then_some(self.numbers[at])
+        let price = price_in_hundredths(self.numbers[at], self.numbers[at + 1]);
+        let presence = self.numbers[at + 2];
+        (0 < presence).then_some(price)
     }
 }

@@ -12,7 +12,7 @@ loop-p-init c = let r = c.args.results.now in no_lines c.args.self.now (price_at
 pub loop-p-preserved : goal.loop-p-preserved
 loop-p-preserved c =
     let r = c.args.results.now in
-    let line = ap (pool_line (c.loop-p.p + 1)) c.price.ensures ∙ price_shown (c.loop-p.p + 1) _ _ in
+    let line = ap (pool_line (c.loop-p.p + 1)) c.price.ensures ∙ price_shown (c.loop-p.p + 1) _ _ _ in
     line_wrote c.loop-p.p (price_at r.counts.n r.counts.m r.numbers.now) c.loop-p.invariant (same_text line c.put_price.ensures)
 
 pub returns : goal.returns
