@@ -40,7 +40,7 @@ fn is_within_size(number: i32, limit: i32) -> bool
 }
 
 // Each number lies between 0 and the size of its limit. One test of amounts and flows: the limit of number k stands at step × k + first, since an
-// amount's is one of three numbers of its bid; with the bids cut in chunks, the two would be tested by loops that differ in this alone.
+// amount's is one of four numbers of its bid; with the bids cut in chunks, the two would be tested by loops that differ in this alone.
 fn are_within(numbers: &[i32], limits: &[i32], first: usize, step: usize) -> bool
     requires { (k : ℕ) → k < length numbers.now → step * k + first < length limits.now }
     ensures { result ≡ within_sizes numbers.now limits.now first step }
