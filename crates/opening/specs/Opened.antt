@@ -1,15 +1,15 @@
 -- What is opened of a sheet that a book's plan has left is the best clearing: its accepted amounts, its flows by rows, and of each pool the
--- signed price and the presence (`opened_outcome`).
+-- signed price, its hundredths and its presence (`opened_outcome`).
 use Rattle.std.specs.Prelude.{ℕ, zero, suc, ◌+◌, ◌*◌, ◌≤◌, ◌<◌, ◌≡◌, refl, Bool, true, false, cond, length, take, drop, ℤ, pos, nat_abs, List, [], ◌∷◌, ◌++◌, map}
 use Rattle.std.proofs.Common.{ap, ap₂, ◌∙◌, mul-le-mul, drop-cons, drop-drop, take-add, arith}
 use Rattle.std.proofs.lemmas.List.{map-append}
 use Rattle.std.proofs.Math.Arith.{digits_lt}
 use Rattle.std.specs.Int.Signed.{lt_z}
-use Rattle.definitions.specs.Limits.{pool_limit, price_limit, greatest_positive, pool_results}
+use Rattle.definitions.specs.Limits.{pool_limit, whole_limit, hundredths_limit, greatest_positive, pool_results}
 use Rattle.definitions.specs.Arithmetic.{join_to, reading}
-use Rattle.definitions.specs.Book.{Book, price}
+use Rattle.definitions.specs.Book.{Book, whole_price, hundredths, in_hundredths}
 use Rattle.definitions.specs.Sheet.{first_result, result_count, first_scratch, amount_cell, flow_cell, price_cell}
-use Rattle.definitions.specs.PoolPrice.{PoolPrice, missing, present, lower_price, least_price, supplies, pool_price, price_residue, presence}
+use Rattle.definitions.specs.PoolPrice.{PoolPrice, missing, present, lower_price, least_price, supplies, pool_price, price_residue, hundredths_residue, presence}
 use Rattle.definitions.specs.Machine.{cell}
 use Rattle.definitions.specs.Calls.{AcceptedBook, opened_results}
 use Rattle.definitions.specs.Outcome.{Outcome, result_of, price_numbers, clearing_results}
@@ -26,12 +26,15 @@ both_read s from j k =
     ∙ map-append reading (take j (drop from s)) (take k (drop j (drop from s)))
     ∙ ap (λ (xs : List ℕ). readings s from j ++ map reading (take k xs)) (drop-drop j from s)
 
--- of one cell, and of two
+-- of one cell, of two, and of three
 one_read : (s : List ℕ) (c : ℕ) → c < length s → readings s c 1 ≡ reading (cell s c) ∷ []
 one_read s c h = rw (drop-cons s c 0 h) refl
 
 two_read : (s : List ℕ) (c : ℕ) → c + 1 < length s → readings s c 2 ≡ reading (cell s c) ∷ reading (cell s (c + 1)) ∷ []
 two_read s c h = both_read s c 1 1 ∙ ap₂ ◌++◌ (one_read s c (omega arith)) (one_read s (c + 1) h)
+
+three_read : (s : List ℕ) (c : ℕ) → c + 2 < length s → readings s c 3 ≡ reading (cell s c) ∷ reading (cell s (c + 1)) ∷ reading (cell s (c + 2)) ∷ []
+three_read s c h = both_read s c 2 1 ∙ ap₂ ◌++◌ (two_read s c (omega arith)) (one_read s (c + 2) h)
 
 -- of k parts of w cells each
 parts_read : (s : List ℕ) (from k w : ℕ) (f : ℕ → List ℤ) → ((i : ℕ) → i < k → readings s (from + i * w) w ≡ f i) → readings s from (k * w) ≡ join_to k f
@@ -43,35 +46,42 @@ parts_read s from (suc k) w f h =
     (both_read s from (k * w) w
     ∙ ap₂ ◌++◌ (parts_read s from k w f (λ i l. h i (omega arith))) (h k (omega arith)))
 
--- ---- a pool's price is the price of a bid, and so within its limit
+-- ---- a pool's price is the price of a bid, and so its parts are within their limits
 
 Limited : PoolPrice → Type 0
 Limited missing = Unit {0}
-Limited (present z) = nat_abs z ≤ price_limit
+Limited (present w h) = (nat_abs w ≤ whole_limit) × (nat_abs h ≤ hundredths_limit)
 
-lower_limited : (r : PoolPrice) (z : ℤ) → Limited r → nat_abs z ≤ price_limit → Limited (lower_price r z)
+lower_limited : (r : PoolPrice) (w h : ℤ) → Limited r → Limited (present w h) → Limited (lower_price r w h)
 unfolding Limited
-lower_limited missing z h l = l
-lower_limited (present y) z h l = go (lt_z z y)
+lower_limited missing w h k l = l
+lower_limited (present v g) w h k l = go (lt_z (in_hundredths w h) (in_hundredths v g))
   where
-    go : (t : Bool) → nat_abs (cond t z y) ≤ price_limit
+    go : (t : Bool) → Limited (cond t (present w h) (present v g))
     go true = l
-    go false = h
+    go false = k
 
 least_limited : (B : Book) → Sound B → (test : ℕ → Bool) (k : ℕ) → k ≤ B.n → Limited (least_price B test k)
 unfolding least_price Limited
 least_limited B ok test zero l = tt
 least_limited B ok test (suc k) l = go (test k) (least_limited B ok test k (omega arith))
   where
-    go : (t : Bool) → Limited (least_price B test k) → Limited (cond t (lower_price (least_price B test k) (price B k)) (least_price B test k))
-    go true h = lower_limited (least_price B test k) (price B k) h (ok.price_size k (omega arith))
+    go : (t : Bool) → Limited (least_price B test k) → Limited (cond t (lower_price (least_price B test k) (whole_price B k) (hundredths B k)) (least_price B test k))
+    go true h = lower_limited (least_price B test k) (whole_price B k) (hundredths B k) h (ok.whole_size k (omega arith), ok.hundredths_small k (omega arith))
     go false h = h
 
--- its two cells, read
-price_read : (r : PoolPrice) → Limited r → reading (price_residue r) ∷ reading (presence r) ∷ [] ≡ price_numbers r
+-- its three cells, read
+price_read : (r : PoolPrice) → Limited r → reading (price_residue r) ∷ reading (hundredths_residue r) ∷ reading (presence r) ∷ [] ≡ price_numbers r
 unfolding Limited
-price_read missing h = refl
-price_read (present z) h = ap (λ (y : ℤ). y ∷ pos 1 ∷ []) (reading_residue z (let l : nat_abs z ≤ greatest_positive = omega arith in l))
+price_read missing l = refl
+price_read (present w h) l =
+    ap₂ (λ (x y : ℤ). x ∷ y ∷ pos 1 ∷ [])
+    (reading_residue w (let k : nat_abs w ≤ greatest_positive = omega (arith, l.0) in k))
+    (reading_residue h (let k : nat_abs h ≤ greatest_positive = omega (arith, l.1) in k))
+
+-- three cells that hold these numbers
+three_hold : {x x' y y' z z' : ℕ} → x ≡ x' → y ≡ y' → z ≡ z' → reading x ∷ reading y ∷ reading z ∷ [] ≡ reading x' ∷ reading y' ∷ reading z' ∷ []
+three_hold e f g = cc (e, f, g)
 
 -- ---- the results
 
@@ -123,8 +133,8 @@ module _ (B : Book) (accepted : AcceptedBook B) (s : List ℕ) (left : Outcome B
   pool_read p l =
       let e : prices + p * pool_results ≡ price_cell B.n B.m p = omega arith in
       rw e
-      (two_read s (price_cell B.n B.m p) (on_sheet _ (omega arith))
-      ∙ ap₂ (λ (x y : ℕ). reading x ∷ reading y ∷ []) (left.prices p l) (left.presences p l)
+      (three_read s (price_cell B.n B.m p) (on_sheet _ (omega arith))
+      ∙ three_hold (left.prices p l) (left.hundredths p l) (left.presences p l)
       ∙ price_read _ (least_limited B ok (supplies B (result_of B s) p) B.n (omega arith)))
 
   pub opened_outcome : opened_results B.n B.m s ≡ clearing_results B (result_of B s)
