@@ -120,9 +120,15 @@ impl Tables {
 // ---- A bid alone: m and the bid's numbers
 
 fn call_bid(rt: &impl Print, input: &[u8]) -> Result<(), Failure> {
-    let [] = slices::<0>(input, 5).ok_or(Failure::Unreadable)?;
+    let [] = slices::<0>(input, 6).ok_or(Failure::Unreadable)?;
     let m = number(input, 1);
-    let verdict = judge_bid(m, signed(input, 2), signed(input, 3), signed(input, 4));
+    let verdict = judge_bid(
+        m,
+        signed(input, 2),
+        signed(input, 3),
+        signed(input, 4),
+        signed(input, 5),
+    );
     Ok(print_verdict(rt, verdict)?)
 }
 

@@ -1,11 +1,10 @@
 // The opened results of a book, read by bid, line and pool.
 ghost use Rattle.std.specs.Prelude.{◌≡◌, ◌<◌, length};
-ghost use Rattle.definitions.specs.Book.{in_hundredths};
 ghost use Rattle.definitions.specs.Calls.{result_at, flow_place, pool_place, pool_hundredths_place, presence_place};
 ghost use Rattle.definitions.specs.Sheet.{result_count};
 ghost use Rattle.listing.specs.Prices.{priced};
 
-use definitions::{Counts, Limits};
+use definitions::{Counts, Limits, price_in_hundredths};
 
 // The opened results of a book of these counts, as they are lent: accepted amounts, flows by rows, and each pool's price, hundredths and
 // presence.
@@ -14,13 +13,6 @@ pub(crate) struct Results<'a> {
     pub(crate) counts: Counts,
     pub(crate) numbers: &'a [i32],
     ghost complete: { length numbers.now ≡ result_count counts.n counts.m },
-}
-
-// A price in hundredths. In 64 bits it fits for any two results that are lent.
-fn price_in_hundredths(price: i32, hundredths: i32) -> i64
-    ensures { result ≡ in_hundredths price hundredths }
-{
-    price as i64 * Limits::HUNDRED as i64 + hundredths as i64
 }
 
 impl Results<'_> {

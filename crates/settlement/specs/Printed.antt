@@ -1,5 +1,5 @@
 -- What settle prints for an accepted book is its best clearing, with permitted flows (`printed_best`). For example 2 these are document 01's
--- six lines, with the prices of request 4 (`example_printed`).
+-- six lines, with the prices of request 4, prices and welfare in hundredths (`example_printed`).
 use Rattle.std.specs.Prelude.{ℕ, ◌≡◌, refl, List, [], ◌∷◌, get_or, pos}
 use Rattle.std.proofs.Common.{ap, ap₂, ◌∙◌}
 use Rattle.definitions.specs.Arithmetic.{join_to}
@@ -48,7 +48,7 @@ at : {A : Type 0} {xs ys : List A} (i : ℕ) (d : A) → xs ≡ ys → get_or xs
 at i d e = ap (λ xs. get_or xs i d) e
 
 two_results : (c : Clearing) → Best book_two c → Permitted book_two c
-    → clearing_results book_two c ≡ pos 3 ∷ pos 3 ∷ pos 0 ∷ pos 3 ∷ pos 0 ∷ pos 0 ∷ pos 20 ∷ pos 1 ∷ pos 30 ∷ pos 1 ∷ []
+    → clearing_results book_two c ≡ pos 3 ∷ pos 3 ∷ pos 0 ∷ pos 3 ∷ pos 0 ∷ pos 0 ∷ pos 20 ∷ pos 0 ∷ pos 1 ∷ pos 30 ∷ pos 0 ∷ pos 1 ∷ []
 unfolding book_two clearing_results join_to listed
 two_results c best permitted =
     let two = proved_examples.two in
