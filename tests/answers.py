@@ -133,12 +133,12 @@ def answered(made, numbers, slices):
 
 
 def bid(plans, words):
-    m, pool, price, quantity = words.number(), words.signed(), words.signed(), words.signed()
+    m, alone = words.number(), tuple(words.signed() for _ in range(solver.BID_NUMBERS))
     words.ended()
 
     def made():
         counts(0, m)
-        refusal = solver.refusal(1, m, [(pool, price, quantity)], [[0] * m] * m)
+        refusal = solver.refusal(1, m, [alone], [[0] * m] * m)
         if refusal:
             raise Refused(refusal[0], 0)
         return []

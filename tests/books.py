@@ -1,6 +1,10 @@
-"""Books drawn at random, with the cases that matter made frequent: trade, lines that bind, ties, equal sales, equal purchases, withdrawn bids,
-negative prices, the ends of every range, lines of 0 and 1,000,000, rings."""
-from solver import BIDS, CAPACITY, POOLS, PRICE, QUANTITY
+"""Books drawn at random, with the cases that matter made frequent: trade, lines that bind, ties, prices apart by hundredths alone, equal sales, equal
+purchases, withdrawn bids, negative prices, the ends of every range, lines of 0 and 1,000,000, rings."""
+from solver import BIDS, CAPACITY, GREATEST, HUNDRED, LEAST, POOLS, PRICE, QUANTITY
+
+# prices are drawn as pairs of the whole part and the hundredths, which are in the order of the prices
+HUNDREDTHS = [0, 1, 25, 50, 99]
+ENDS = [(-PRICE, 0), (-PRICE, 1), (-PRICE, HUNDRED - 1), (PRICE - 1, HUNDRED - 1), (PRICE, 0)]  # of the range of prices
 
 
 def line(draw, size):
@@ -34,6 +38,11 @@ def lines(draw, m, size):
     return [[0 if a == b else line(draw, size) for b in range(m)] for a in range(m)]
 
 
+def price(draw, wholes):
+    whole = draw.choice(wholes)
+    return whole, 0 if whole == PRICE else draw.choice(HUNDREDTHS + [draw.randrange(HUNDRED)])
+
+
 def bid(draw, m, prices, quantities, apart):
     """With apart, a sale's price is of the lower half of the prices, which are sorted, and a purchase's of the upper half."""
     pool = draw.randint(1, m)
@@ -41,8 +50,8 @@ def bid(draw, m, prices, quantities, apart):
     if apart:
         half = len(prices) // 2
         prices = prices[half:] if quantity > 0 else prices[:half + 1]
-    price = draw.choice(prices) if draw.random() < 0.9 else draw.choice([-PRICE, PRICE])
-    return pool, price, quantity
+    whole, hundredths = draw.choice(prices) if draw.random() < 0.9 else draw.choice(ENDS)
+    return pool, whole, quantity, hundredths
 
 
 def sound(draw, n=None, m=None):
@@ -50,29 +59,43 @@ def sound(draw, n=None, m=None):
     n = draw.choice([draw.randint(0, 3), draw.randint(4, 12), draw.randint(0, BIDS), BIDS]) if n is None else n
     few = [draw.randint(-PRICE, PRICE) for _ in range(draw.randint(1, 4))]
     many = [draw.randint(-PRICE, PRICE) for _ in range(BIDS)]
-    prices = sorted(draw.choice([few, many, [-2, -1, 0, 1, 2]]))
+    wholes = draw.choice([few, many, [-2, -1, 0, 1, 2]])
+    prices = sorted(price(draw, wholes) for _ in range(draw.choice([2, 6, BIDS])))
     quantities = draw.choice([[draw.randint(-9, 9) for _ in range(6)], [draw.randint(-QUANTITY, QUANTITY) for _ in range(BIDS)]])
     apart = draw.random() < 0.5
     bids = [bid(draw, m, prices, quantities, apart) for _ in range(n)]
     return n, m, bids, lines(draw, m, max(map(abs, quantities)))
 
 
+def spoiled(draw, m, bid):
+    """A bid with one to three of its numbers out of range: several show which is told first. Or its price is above 30,000.00 by the hundredths alone."""
+    values = list(bid)
+    beyond = [[0, m + 1, -1], [PRICE + 1, -PRICE - 1], [QUANTITY + 1, -QUANTITY - 1], [-1, HUNDRED]]
+    for k in draw.sample(range(len(beyond)), draw.choice([1, 1, 2, 3])):
+        values[k] = draw.choice(beyond[k] + [GREATEST, LEAST])
+    if draw.random() < 0.15:
+        values[1], values[3] = PRICE, draw.choice([1, 50, HUNDRED - 1])
+    return tuple(values)
+
+
 def faulty(draw):
-    """A sound book with one or two numbers put out of range, or counts beyond their limits."""
+    """A sound book with one or two faults, or counts beyond their limits."""
     n, m, bids, capacities = sound(draw)
     if draw.random() < 0.15:
         return draw.choice([(BIDS + 1, m), (draw.randint(65, 10**6), draw.randint(0, 9)), (n, 0), (n, POOLS + 1), (n, 10**6)]) + ([], [])
     for _ in range(draw.randint(1, 2)):
         if n and draw.random() < 0.6:
             i = draw.randrange(n)
-            values = list(bids[i])
-            k = draw.randrange(3)
-            values[k] = draw.choice([[0, m + 1, -1, 2**31 - 1, -2**31], [PRICE + 1, -PRICE - 1, 2**31 - 1], [QUANTITY + 1, -QUANTITY - 1, -2**31]][k])
-            bids[i] = tuple(values)
+            bids[i] = spoiled(draw, m, bids[i])
         else:
             a, b = draw.randrange(m), draw.randrange(m)
-            capacities[a][b] = draw.choice([-1, CAPACITY + 1, 1, 2**31 - 1, -2**31])
+            capacities[a][b] = draw.choice([-1, CAPACITY + 1, 1, GREATEST, LEAST])
     return n, m, bids, capacities
+
+
+def widened(bids):
+    """Bids of three numbers, read with hundredths 0."""
+    return [(*bid, 0) for bid in bids]
 
 
 def text(n, m, bids, capacities):

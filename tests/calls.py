@@ -1,7 +1,8 @@
 """Holds every call of the unit to tests/answers.py, which is written apart: python3 tests/calls.py CALLS DUMP [INPUTS] [SEED]
 
 CALLS is the program that makes one call on the words of its input, DUMP the program of tests/dump.c. Sound and faulty input is drawn for each call,
-with one fault or two, and input that is no call's; every printed line is compared. Then the stored inputs and lines of tests/calls.txt."""
+with one fault or two, and input that is no call's; every printed line is compared. A bid alone is tried with its numbers at all ends of their ranges
+and beyond. Then the stored inputs and lines of tests/calls.txt."""
 import collections
 import itertools
 import pathlib
@@ -15,7 +16,7 @@ import clearings
 import damaged
 import orders
 from caller import WORDS, call, flat, packed
-from solver import BID_NUMBERS, BIDS, CAPACITY, GREATEST, LEAST, POOLS, PRICE, QUANTITY
+from solver import BID_NUMBERS, BIDS, CAPACITY, GREATEST, HUNDRED, LEAST, POOLS, PRICE, QUANTITY
 
 STORED = pathlib.Path(__file__).parent / "calls.txt"
 COUNTS = [(0, 1), (1, 1), (2, 2), (3, 3), (5, 4), (12, 2), (BIDS, 1)]  # their plans are few and short enough to be run here
@@ -56,19 +57,27 @@ def high_cell(draw, cells):
 
 
 def beyond(draw, k):
-    """A bid's pool, price or quantity beyond its limits, by one or by all that 32 bits allow."""
-    return draw.choice([[0, POOLS + 1, -1], [-PRICE - 1, PRICE + 1], [-QUANTITY - 1, QUANTITY + 1]][k] + [LEAST, GREATEST])
+    """A bid's pool, price, quantity or hundredths beyond its limits, by one or by all that 32 bits allow."""
+    return draw.choice([[0, POOLS + 1, -1], [-PRICE - 1, PRICE + 1], [-QUANTITY - 1, QUANTITY + 1], [-1, HUNDRED]][k] + [LEAST, GREATEST])
+
+
+def put_above(draw, bids, first):
+    """The price of the bid whose numbers begin there is above 30,000.00 by its hundredths alone."""
+    bids[first + 1], bids[first + 3] = PRICE, draw.choice([1, HUNDRED - 1])
 
 
 # ---- One input of each call, with so many faults
 
 def bid(draw, plans, faults):
     m = draw.randint(1, POOLS)
-    values = [draw.choice([1, m]), draw.choice([-PRICE, PRICE, 0]), draw.choice([-QUANTITY, QUANTITY, 0])]
+    whole, hundredths = draw.choice(books.ENDS + [(0, 0), (-1, 50)])
+    values = [draw.choice([1, m]), whole, draw.choice([-QUANTITY, QUANTITY, 0]), hundredths]
     for _ in range(faults):
-        k = draw.randrange(BID_NUMBERS + 1)
+        k = draw.randrange(BID_NUMBERS + 2)
         if k == BID_NUMBERS:
             m = draw.choice([0, POOLS + 1, 2**31, WORDS - 1])
+        elif k > BID_NUMBERS:
+            put_above(draw, values, 0)
         else:
             values[k] = draw.choice([beyond(draw, k), m + 1 if k == 0 else beyond(draw, k)])
     return call(1, [m, *values])
@@ -79,14 +88,16 @@ def lodged(number, draw, faults, n, m, bids, capacities, *further):
     slices = [flat(bids), flat(capacities), *further]
     for _ in range(faults):
         bids, capacities, *_ = slices
-        kind = draw.randrange(len(slices) + 5)
+        kind = draw.randrange(len(slices) + 8)
         if kind < len(slices):
             slices[kind] = other_length(draw, slices[kind])
         elif kind == len(slices):
             n, m = bad_counts(draw, n, m)
-        elif kind < len(slices) + 3 and bids:
+        elif kind < len(slices) + 4 and bids:
             at = draw.randrange(len(bids))
             bids[at] = beyond(draw, at % BID_NUMBERS)
+        elif kind == len(slices) + 4 and len(bids) >= BID_NUMBERS:
+            put_above(draw, bids, BID_NUMBERS * draw.randrange(len(bids) // BID_NUMBERS))
         elif capacities:
             capacities[draw.randrange(len(capacities))] = draw.choice([-1, CAPACITY + 1, 1, LEAST, GREATEST])
     return call(number, [n, m], *slices)
@@ -211,6 +222,11 @@ EDGES = [b"", b"\0", b"\1\0\0", *(packed([number]) for number in range(0, 20)), 
          call(10, [0, 1], [], [0], [], [9] * (answers.ROOM - 8)), call(10, [0, 1], [], [0], [], [9] * (answers.ROOM - 7)),
          call(8, [0, 1, 0], [7] * 9)[:-1], packed([8, 0, 1, 0, WORDS - 1, 7]), packed([2, 0, 1, 2**31, 0, 0]), bytes(4 * answers.ROOM), bytes(4 * answers.ROOM + 1)]
 
+# a bid alone: each of its numbers at the ends of its range and one beyond, price and hundredths at the ends of 32 bits too
+ALONE = [call(1, [POOLS, *values]) for values in itertools.product(
+    [0, 1, POOLS, POOLS + 1], [LEAST, -PRICE - 1, -PRICE, PRICE - 1, PRICE, PRICE + 1, GREATEST],
+    [-QUANTITY - 1, -QUANTITY, QUANTITY, QUANTITY + 1], [LEAST, -1, 0, 1, HUNDRED - 1, HUNDRED, GREATEST])]
+
 
 # each call's inputs, and what it has to be seen to answer: 0 for accepted, or what is said then, and each of its refusals
 CALLS = {
@@ -268,7 +284,7 @@ def main():
         done = subprocess.run([program], input=data, stdout=subprocess.PIPE, stderr=subprocess.PIPE, check=True)
         assert not done.stderr, done.stderr
         return done.stdout.decode("ascii")
-    for number, data in itertools.chain([(None, data) for data in EDGES], drawn(draw, plans, count)):
+    for number, data in itertools.chain([(None, data) for data in EDGES + ALONE], drawn(draw, plans, count)):
         found, expected = ran(data), answers.answer(plans, data)
         assert found == expected, (number, data.hex()[:2000], found[:500], expected[:500])
         seen[number].add(outcome(found))
@@ -277,7 +293,8 @@ def main():
     vectors = list(stored())
     for name, data, lines in vectors:
         assert ran(data) == answers.answer(plans, data) == lines, (name, ran(data)[:500], lines[:500])
-    print(f"{len(EDGES) + count} inputs and {len(vectors)} stored ones: every call answers, and leaves its slices, as written apart; each of its refusals was seen")
+    print(f"{len(EDGES) + len(ALONE) + count} inputs and {len(vectors)} stored ones: every call answers, and leaves its slices, as written apart; "
+          "each of its refusals was seen")
 
 
 if __name__ == "__main__":

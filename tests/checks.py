@@ -23,7 +23,7 @@ def gainful(m, bids, capacities, amounts, flows):
             if flows[a][b] < capacities[a][b] or flows[b][a] > 0:
                 cost[a][b] = 0
     for bid, amount in zip(bids, amounts):
-        (pool, price, quantity), used = bid, clearings.used(bid, amount)
+        (pool, _, quantity, _), price, used = bid, exhaustive.price(bid), clearings.used(bid, amount)
         if used < abs(quantity):
             cost[m][pool - 1] = min(cost[m][pool - 1], price)
         if used > 0:

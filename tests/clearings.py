@@ -57,6 +57,15 @@ def used(bid, amount):
     return bid[2] - amount if bid[2] > 0 else amount
 
 
+def equal(bid, other):
+    """Prices are equal only if both parts are."""
+    return bid[1] == other[1] and bid[3] == other[3]
+
+
+def apart_by_hundredths(bid, other):
+    return bid[1] == other[1] and bid[3] != other[3]
+
+
 def pairs(draw, book, amounts, flows):
     """Two bids at a time, in any order: whether their prices are equal, how much the first can take over from the other, and how much the lines can carry."""
     n, _, bids, capacities = book
@@ -65,7 +74,7 @@ def pairs(draw, book, amounts, flows):
             if i != j:
                 a, b = bids[i][0] - 1, bids[j][0] - 1
                 both = min(abs(bids[i][2]) - used(bids[i], amounts[i]), used(bids[j], amounts[j]))
-                yield i, j, bids[i][1] == bids[j][1], both, capacities[a][b] - flows[a][b] + flows[b][a] if a != b else math.inf
+                yield i, j, equal(bids[i], bids[j]), both, capacities[a][b] - flows[a][b] + flows[b][a] if a != b else math.inf
 
 
 def taken_from(book, amounts, flows, i, j, more):
@@ -80,28 +89,34 @@ def taken_from(book, amounts, flows, i, j, more):
     return True
 
 
-def taken_over(draw, book, amounts, flows, at_equal_prices):
-    for i, j, equal, both, lines in pairs(draw, book, amounts, flows):
-        if equal == at_equal_prices and min(both, lines) > 0:
+def taken_over(draw, book, amounts, flows, wanted):
+    _, _, bids, _ = book
+    for i, j, _, both, lines in pairs(draw, book, amounts, flows):
+        if wanted(bids[i], bids[j]) and min(both, lines) > 0:
             return taken_from(book, amounts, flows, i, j, draw.choice([1, min(both, lines)]))
     return False
 
 
 def exchanged(draw, book, amounts, flows):
     """At equal prices, so that the welfare stays: equal bids exchanged, or traded more or less where nothing is gained by it."""
-    return taken_over(draw, book, amounts, flows, True)
+    return taken_over(draw, book, amounts, flows, equal)
 
 
 def dearer(draw, book, amounts, flows):
     """At other prices: traded less, traded more at a loss, or a dearer bid in place of a cheaper one. Feasible, but not the greatest welfare."""
-    return taken_over(draw, book, amounts, flows, False)
+    return taken_over(draw, book, amounts, flows, lambda bid, other: not equal(bid, other))
+
+
+def dearer_by_hundredths(draw, book, amounts, flows):
+    """The same at prices that are equal but for their hundredths."""
+    return taken_over(draw, book, amounts, flows, apart_by_hundredths)
 
 
 def beyond_size(draw, book, amounts, flows):
     """An amount one above its bid's size or one below 0, and all in balance; half the time with the same welfare, if there are bids for that."""
     for same in draw.choice([[True, False], [False]]):
-        for i, j, equal, both, lines in pairs(draw, book, amounts, flows):
-            if (equal or not same) and both < lines:
+        for i, j, at_equal_prices, both, lines in pairs(draw, book, amounts, flows):
+            if (at_equal_prices or not same) and both < lines:
                 return taken_from(book, amounts, flows, i, j, both + 1)
     return False
 
@@ -119,7 +134,7 @@ def above_line(draw, book, amounts, flows):
 def one_amount(draw, book, amounts, flows):
     """Half the time at price 0, if there is such a bid: then the welfare stays."""
     n, _, bids, _ = book
-    free = [i for i in range(n) if bids[i][1] == 0]
+    free = [i for i in range(n) if bids[i][1] == bids[i][3] == 0]
     if n:
         amounts[draw.choice(free if free and draw.random() < 0.5 else range(n))] += draw.choice([-1, 1])
     return n > 0
@@ -174,13 +189,13 @@ def wandered(draw, book, amounts, flows):
 def unlike(draw, book, amounts, flows):
     """Any amounts and flows within their limits, feasible by chance alone."""
     _, m, bids, capacities = book
-    amounts[:] = [draw.randint(0, abs(quantity)) for _, _, quantity in bids]
+    amounts[:] = [draw.randint(0, abs(quantity)) for _, _, quantity, _ in bids]
     flows[:] = [[draw.randint(0, capacities[a][b]) for b in range(m)] for a in range(m)]
     return True
 
 
 RIGHT = [both_ways, longer_ring, exchanged]
-WRONG = [ring_above_line, ring_below_zero, dearer, beyond_size, above_line, one_amount, one_flow, far, negated, not_carried]
+WRONG = [ring_above_line, ring_below_zero, dearer, dearer_by_hundredths, beyond_size, above_line, one_amount, one_flow, far, negated, not_carried]
 EITHER = [nothing, wandered, unlike]
 
 

@@ -72,7 +72,7 @@ int main(int count, char **words) {
             fill(0);
             require(plan_total(n, m, out, 8) == 0 && kept(0, 0, 8), "total");
             uint64_t total = number(out), position = 0, left = 0;
-            require(total <= n * (100 * n + 40 * (m + 1) * (m + 1) * (m + 1) * (m + 1) * (m + 1) * (m + 1)) + 10000, "limit");
+            require(total <= n * (200 * n + 40 * (m + 1) * (m + 1) * (m + 1) * (m + 1) * (m + 1) * (m + 1)) + 10000, "limit");
             while (position < total) {
                 fill(length);
                 require(plan_bytes(n, m, position, bytes, length, out, 24) == 0, "bytes");

@@ -1,5 +1,5 @@
 """The machine and the plan's bytes, written apart from the unit from document 01's words."""
-from solver import BID_NUMBERS, POOL_RESULTS
+from solver import BID_NUMBERS, HUNDRED, POOL_RESULTS
 
 P, CELLS = 2_147_483_647, 4_096
 
@@ -83,9 +83,14 @@ def sealed(bids, capacities):
     return sheet(inputs(bids, capacities))
 
 
+def pool_cells(price):
+    """A pool's price in two parts as a bid gives them, the whole part rounded down, and its presence."""
+    return (0, 0, 0) if price is None else (*divmod(price, HUNDRED), 1)
+
+
 def cleared(bids, capacities, accepted, flows, prices):
     """The sheet that a plan has to leave: inputs as sealed, results, 0 in all scratch."""
-    cells = [v for price in prices for v in ((0, 0) if price is None else (price, 1))]
+    cells = [v for price in prices for v in pool_cells(price)]
     return sheet(inputs(bids, capacities) + accepted + [v for row in flows for v in row] + cells)
 
 

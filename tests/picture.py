@@ -13,9 +13,10 @@ WIDTH, HEIGHT, LEFT, TOP = 1000, 560, 70, 103
 def phases(n, m):
     """Where each phase begins."""
     sets = 2**m
-    lengths = [("constants", 2 + m), ("bids", 8 * n), ("membership", 2 * n * m), ("cuts", m * (1 + 2 * n) + sets * (2 + m * m)),
+    lengths = [("constants", 4 + m), ("bids", 10 * n), ("membership", 2 * n * m), ("cuts", m * (1 + 2 * n) + sets * (2 + m * m)),
                ("ranks", n * (m + n * (1 + 2 * m)) + 2 * n * (1 + 6 * sets) + n * m), ("amounts", 5 * n), ("slacks", m * (1 + 2 * n) + 2 * sets),
-               ("reach", sets + m * m * (1 + sets)), ("flows", m * m * (2 + 5 * sets)), ("prices", 3 * n + m * (1 + 5 * n) + m * (1 + 5 * m) + 3 * m)]
+               ("reach", sets + m * m * (1 + sets)), ("flows", m * m * (2 + 5 * sets)),
+               ("margins", 3 * n + m * (1 + 5 * n) + m * (1 + 5 * m)), ("prices", n * m + m * (1 + 5 * n) + 7 * m)]
     starts, at = [], 0
     for name, length in lengths:
         starts.append((name, at))

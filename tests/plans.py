@@ -1,6 +1,6 @@
 """Runs the unit's own plans on the machine written apart, and holds what they leave to the solver, and README's table of orders to their lengths:
 python3 tests/plans.py DUMP [PLANS] [SEED], DUMP being the program of tests/dump.c. The stored books of tests/exhaustive.py are among those run. The
-prices are also taken by the words of request 4 of document 02 from the flows that a plan leaves."""
+prices are also taken by the words of request 4 of document 02 from the flows that a plan leaves, and their two parts are those of a bid."""
 import pathlib
 import subprocess
 
@@ -29,7 +29,7 @@ def plan(dump, n, m):
 
 
 def limit(n, m):
-    return n * (100 * n + 40 * (m + 1) ** 6) + 10_000
+    return n * (200 * n + 40 * (m + 1) ** 6) + 10_000
 
 
 def table():
@@ -47,6 +47,8 @@ def check(found, n, m, bids, capacities):
     assert cells == orders.cleared(bids, capacities, accepted, flows, prices), (n, m, bids, capacities, accepted, flows, prices, cells)
     assert not solver.faults(n, m, bids, capacities, accepted, flows), (n, m, bids, capacities, flows)
     assert prices == exhaustive.prices(n, m, bids, capacities, accepted, flows), (n, m, bids, capacities, accepted, flows, prices)
+    parts = [(whole, hundredths, 1) for _, whole, _, hundredths in bids]
+    assert all(price is None or orders.pool_cells(price) in parts for price in prices), (bids, prices)
 
 
 def main():

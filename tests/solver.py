@@ -1,14 +1,27 @@
 """The best clearing of a book, written apart from the unit: by augmenting paths, with no cuts and no plan.
 
-A book is (n, m, bids, capacities): bids a list of (pool, price, quantity), pools from 1, capacities an m by m list of rows.
+A book is (n, m, bids, capacities): bids a list of (pool, price, quantity, hundredths), pools from 1, capacities an m by m list of rows.
 `refusal` gives document 01's number and place, or None. `clear` gives accepted amounts and pool prices, by request 4 of document 02, `flows_of`
-some flows that go with such amounts. `right` tells whether a clearing from elsewhere is feasible and has the greatest welfare.
+some flows that go with such amounts. `right` tells whether a clearing from elsewhere is feasible and has the greatest welfare. Prices and welfare
+are whole hundredths, by request 5.
 """
 from collections import deque
 
 BIDS, POOLS, PRICE, QUANTITY, CAPACITY = 64, 4, 30_000, 65_535, 1_000_000
+HUNDRED = 100  # hundredths make one
 LEAST, GREATEST = -2**31, 2**31 - 1  # of signed 32 bits
-BID_NUMBERS, POOL_RESULTS = 3, 2  # pool, price, quantity; price, presence
+BID_NUMBERS, POOL_RESULTS = 4, 3  # pool, price, quantity, hundredths; price, hundredths, presence
+
+
+def limit_price(bid):
+    """A bid's limit price: the hundredths are added to the price, below 0 too, so that -3 with 25 is -275."""
+    _, price, _, hundredths = bid
+    return HUNDRED * price + hundredths
+
+
+def priced(price, hundredths):
+    """Whether both parts are in range, and together not above 30,000.00."""
+    return -PRICE <= price <= PRICE and 0 <= hundredths < HUNDRED and (price, hundredths) <= (PRICE, 0)
 
 
 def refusal(n, m, bids, capacities):
@@ -16,10 +29,10 @@ def refusal(n, m, bids, capacities):
         return 1, 0
     if m == 0 or m > POOLS:
         return 2, 0
-    for number, (pool, price, quantity) in enumerate(bids, 1):
+    for number, (pool, price, quantity, hundredths) in enumerate(bids, 1):
         if not 1 <= pool <= m:
             return 4, number
-        if not -PRICE <= price <= PRICE:
+        if not priced(price, hundredths):
             return 5, number
         if not -QUANTITY <= quantity <= QUANTITY:
             return 6, number
@@ -37,9 +50,8 @@ def refusal(n, m, bids, capacities):
 def merit_order(bids):
     """Indices of the bids: lower price first, sales before purchases, sales by lower number, purchases by higher number."""
     def rank(i):
-        _, price, quantity = bids[i]
-        purchase = quantity > 0
-        return price, purchase, -i if purchase else i
+        purchase = bids[i][2] > 0
+        return limit_price(bids[i]), purchase, -i if purchase else i
     return sorted(range(len(bids)), key=rank)
 
 
@@ -86,7 +98,7 @@ def used_amounts(n, m, bids, capacities):
     are left at the end."""
     source, sink = m, m + 1
     network = Network(m + 2)
-    for pool, _, quantity in bids:
+    for pool, _, quantity, _ in bids:
         if quantity > 0:
             network.add(pool - 1, sink, quantity)
     for a in range(m):
@@ -94,7 +106,7 @@ def used_amounts(n, m, bids, capacities):
             network.add(a, b, capacities[a][b])
     used = [0] * n
     for i in merit_order(bids):
-        pool, _, quantity = bids[i]
+        pool, _, quantity, _ = bids[i]
         network.add(source, pool - 1, abs(quantity))
         used[i] = network.augment(source, sink)
         network.rest[source][pool - 1] = 0
@@ -119,26 +131,26 @@ def prices_of(m, bids, used, rest):
     prices = []
     for p in range(m):
         pools = reaching(m, rest, p)
-        prices.append(min((price for (pool, price, q), x in zip(bids, used) if x < abs(q) and pool - 1 in pools), default=None))
+        prices.append(min((limit_price(bid) for bid, x in zip(bids, used) if x < abs(bid[2]) and bid[0] - 1 in pools), default=None))
     return prices
 
 
 def clear(n, m, bids, capacities):
     used, rest = used_amounts(n, m, bids, capacities)
-    accepted = [q - x if q > 0 else x for (_, _, q), x in zip(bids, used)]
+    accepted = [q - x if q > 0 else x for (_, _, q, _), x in zip(bids, used)]
     return accepted, prices_of(m, bids, used, rest)
 
 
 def welfare(bids, accepted):
-    return sum(price * x if q > 0 else -price * x for (_, price, q), x in zip(bids, accepted))
+    return sum(limit_price(bid) * (x if bid[2] > 0 else -x) for bid, x in zip(bids, accepted))
 
 
 def sales_welfare(bids, accepted):
     """What the sales alone take, as it counts in the welfare: the running sum after the last sale, if all sales are summed first."""
     total = 0
-    for (_, price, q), x in zip(bids, accepted):
-        if q <= 0:
-            total -= price * x
+    for bid, x in zip(bids, accepted):
+        if bid[2] <= 0:
+            total -= limit_price(bid) * x
     return total
 
 
@@ -147,7 +159,7 @@ def flows_of(n, m, bids, capacities, accepted):
     source, sink = m, m + 1
     network = Network(m + 2)
     more = [0] * m  # sold in the pool beyond what is bought there
-    for (pool, _, q), x in zip(bids, accepted):
+    for (pool, _, q, _), x in zip(bids, accepted):
         more[pool - 1] += -x if q > 0 else x
     for p in range(m):
         network.add(source, p, max(more[p], 0))
@@ -164,7 +176,7 @@ def flows_of(n, m, bids, capacities, accepted):
 def infeasible(n, m, bids, capacities, accepted, flows):
     """What keeps a clearing from being feasible; an empty list if nothing does."""
     found = []
-    for i, ((_, _, q), x) in enumerate(zip(bids, accepted)):
+    for i, ((_, _, q, _), x) in enumerate(zip(bids, accepted)):
         if not 0 <= x <= abs(q):
             found.append(f"bid {i + 1} accepts {x}")
     for a in range(m):
@@ -172,8 +184,8 @@ def infeasible(n, m, bids, capacities, accepted, flows):
             if not 0 <= flows[a][b] <= capacities[a][b]:
                 found.append(f"line {a + 1} {b + 1} carries {flows[a][b]}")
     for p in range(m):
-        sales = sum(x for (pool, _, q), x in zip(bids, accepted) if pool == p + 1 and q <= 0)
-        purchases = sum(x for (pool, _, q), x in zip(bids, accepted) if pool == p + 1 and q > 0)
+        sales = sum(x for (pool, _, q, _), x in zip(bids, accepted) if pool == p + 1 and q <= 0)
+        purchases = sum(x for (pool, _, q, _), x in zip(bids, accepted) if pool == p + 1 and q > 0)
         inflow = sum(flows[a][p] for a in range(m))
         outflow = sum(flows[p][b] for b in range(m))
         if sales + inflow != purchases + outflow:

@@ -13,11 +13,12 @@
 
 #define P 2147483647u
 #define CELLS 4096
+#define BID_NUMBERS 4 /* pool, price, quantity, hundredths */
 
 struct order { uint32_t kind, d, a, b; };
 
 static int n, m;
-static int32_t bids[64][3], lines[4][4];
+static int32_t bids[64][BID_NUMBERS], lines[4][4];
 
 static double now(void) {
     struct timespec t;
@@ -52,13 +53,15 @@ static void run(const struct order *o, size_t count, uint32_t *s) {
 static void sealed(uint32_t *s) {
     size_t c = 0;
     memset(s, 0, CELLS * sizeof *s);
-    for (int i = 0; i < n; i++) for (int j = 0; j < 3; j++) s[c++] = bids[i][j] < 0 ? P - (uint32_t)-bids[i][j] : (uint32_t)bids[i][j];
+    for (int i = 0; i < n; i++) for (int j = 0; j < BID_NUMBERS; j++) s[c++] = bids[i][j] < 0 ? P - (uint32_t)-bids[i][j] : (uint32_t)bids[i][j];
     for (int a = 0; a < m; a++) for (int b = 0; b < m; b++) s[c++] = (uint32_t)lines[a][b];
 }
 
+static int32_t price(int i) { return 100 * bids[i][1] + bids[i][3]; }
+
 static int earlier(int j, int i) {
     int bj = bids[j][2] > 0, bi = bids[i][2] > 0;
-    if (bids[j][1] != bids[i][1]) return bids[j][1] < bids[i][1];
+    if (price(j) != price(i)) return price(j) < price(i);
     if (bj != bi) return !bj;
     return bj ? j > i : j < i;
 }
@@ -132,7 +135,7 @@ int main(int count, char **words) {
     FILE *file = count == 2 ? fopen(words[1], "rb") : NULL;
     if (!file || scanf("%d %d", &n, &m) != 2) return 2;
     size_t size = fread(bytes, 1, sizeof bytes, file), orders = 0;
-    for (int i = 0; i < n; i++) for (int j = 0; j < 3; j++) if (scanf("%d", &bids[i][j]) != 1) return 2;
+    for (int i = 0; i < n; i++) for (int j = 0; j < BID_NUMBERS; j++) if (scanf("%d", &bids[i][j]) != 1) return 2;
     for (int a = 0; a < m; a++) for (int b = 0; b < m; b++) if (scanf("%d", &lines[a][b]) != 1) return 2;
     for (const uint8_t *at = bytes; at < bytes + size; orders++) {
         list[orders].kind = grouped(&at);
@@ -149,7 +152,7 @@ int main(int count, char **words) {
     for (int k = 0; k < turns; k++) greedy(accepted);
     double paths = (now() - start) / turns;
     for (int i = 0; i < n; i++) {
-        if (reading(sheet[3 * n + m * m + i]) != accepted[i]) {
+        if (reading(sheet[BID_NUMBERS * n + m * m + i]) != accepted[i]) {
             fprintf(stderr, "bid %d: the plan and the greedy accept other amounts\n", i + 1);
             return 1;
         }
