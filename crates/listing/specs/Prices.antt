@@ -10,13 +10,13 @@ abbrev pub priced : (price hundredths presence : ℤ) → Option ℤ
 priced price hundredths presence = cond (lt_z (pos 0) presence) (Some (in_hundredths price hundredths)) None
 
 -- its text
-abbrev pub shown : Option ℤ → List ℕ
-shown (Some price) = decimal_z price
-shown None = none_word
+abbrev pub priced_text : Option ℤ → List ℕ
+priced_text (Some price) = decimal_z price
+priced_text None = none_word
 
 -- its line
 abbrev pub pool_line : (pool : ℕ) → Option ℤ → List ℕ
-pool_line pool price = price_word ++ (space ++ (decimal pool ++ (space ++ (shown price ++ newline))))
+pool_line pool price = price_word ++ (space ++ (decimal pool ++ (space ++ (priced_text price ++ newline))))
 
 pub price_shown : (pool : ℕ) (price hundredths presence : ℤ) → pool_line pool (priced price hundredths presence) ≡ price_line pool price hundredths presence
 unfolding price_line
@@ -25,6 +25,6 @@ price_shown pool price hundredths presence = go (lt_z (pos 0) presence) (in_hund
     line : List ℕ → List ℕ
     line text = price_word ++ (space ++ (decimal pool ++ (space ++ (text ++ newline))))
 
-    go : (t : Bool) (z : ℤ) → line (shown (cond t (Some z) None)) ≡ line (cond t (decimal_z z) none_word)
+    go : (t : Bool) (z : ℤ) → line (priced_text (cond t (Some z) None)) ≡ line (cond t (decimal_z z) none_word)
     go true z = refl
     go false z = refl

@@ -7,4 +7,4 @@ pub returns-clause-input : goal.returns-clause-input
 returns-clause-input c =
     let f = c.feed-reader.ensures in
     let e = c.finish.ensures in
-    rw (e.value, e.numbers_after, f.value, f.numbers_after, c.start-start.ensures) (reads none_stored c.args.text.now refl)
+    simp (e.value, e.numbers_after, f.value, f.numbers_after, c.start-start.ensures) (reads none_stored c.args.text.now refl)
