@@ -1,4 +1,4 @@
--- From an accepted book's sealed sheet the plan leaves document 01's outcome: the best clearing with permitted flows and prices (`plan_outcome`). So the
+-- From an accepted book's sealed sheet the plan leaves the documents' outcome: the best clearing with permitted flows and prices (`plan_outcome`). So the
 -- sheet that one run leaves by computation is an outcome (`example_outcome`).
 use Rattle.std.specs.Prelude.{refl, List, ℕ}
 use Rattle.std.proofs.Common.{sym, subst, ◌∙◌}

@@ -60,6 +60,17 @@ pub listed_two : listing 2 2 (pos 3 ∷ pos 3 ∷ pos 0 ∷ pos 3 ∷ pos 0 ∷ 
 unfolding printed_two listing bid_lines flow_lines price_lines join_to bid_line flow_line price_line welfare_line decimal_z decimal decimal_to
 listed_two = refl
 
+-- three pools without a line, at 20.05, without a price, at −2.75: each has its own three results
+prices_listed :
+    price_lines 0 3
+    (pos 0 ∷ pos 0 ∷ pos 0 ∷ pos 0 ∷ pos 0 ∷ pos 0 ∷ pos 0 ∷ pos 0 ∷ pos 0
+    ∷ pos 20 ∷ pos 5 ∷ pos 1 ∷ pos 30 ∷ pos 7 ∷ pos 0 ∷ neg_ℤ (pos 3) ∷ pos 25 ∷ pos 1 ∷ [])
+    ≡ 112 ∷ 114 ∷ 105 ∷ 99 ∷ 101 ∷ 32 ∷ 49 ∷ 32 ∷ 50 ∷ 48 ∷ 48 ∷ 53 ∷ 10
+    ∷ 112 ∷ 114 ∷ 105 ∷ 99 ∷ 101 ∷ 32 ∷ 50 ∷ 32 ∷ 110 ∷ 111 ∷ 110 ∷ 101 ∷ 10
+    ∷ 112 ∷ 114 ∷ 105 ∷ 99 ∷ 101 ∷ 32 ∷ 51 ∷ 32 ∷ 45 ∷ 50 ∷ 55 ∷ 53 ∷ 10 ∷ []
+unfolding price_lines join_to price_line decimal_z decimal decimal_to
+prices_listed = refl
+
 -- negative numbers, "−3 with 25", and a price that is missing
 negatives : price_line 4 (neg_ℤ (pos 30000)) (pos 0) (pos 1) ∷ price_line 1 (neg_ℤ (pos 3)) (pos 25) (pos 1) ∷ price_line 2 (pos 0) (pos 0) (pos 0) ∷ welfare_line (neg_ℤ (pos 125829120000)) ∷ refused_text 15 4095 ∷ []
     ≡ (112 ∷ 114 ∷ 105 ∷ 99 ∷ 101 ∷ 32 ∷ 52 ∷ 32 ∷ 45 ∷ 51 ∷ 48 ∷ 48 ∷ 48 ∷ 48 ∷ 48 ∷ 48 ∷ 10 ∷ []) ∷ (112 ∷ 114 ∷ 105 ∷ 99 ∷ 101 ∷ 32 ∷ 49 ∷ 32 ∷ 45 ∷ 50 ∷ 55 ∷ 53 ∷ 10 ∷ []) ∷ (112 ∷ 114 ∷ 105 ∷ 99 ∷ 101 ∷ 32 ∷ 50 ∷ 32 ∷ 110 ∷ 111 ∷ 110 ∷ 101 ∷ 10 ∷ []) ∷ (119 ∷ 101 ∷ 108 ∷ 102 ∷ 97 ∷ 114 ∷ 101 ∷ 32 ∷ 45 ∷ 49 ∷ 50 ∷ 53 ∷ 56 ∷ 50 ∷ 57 ∷ 49 ∷ 50 ∷ 48 ∷ 48 ∷ 48 ∷ 48 ∷ 10 ∷ []) ∷ (114 ∷ 101 ∷ 102 ∷ 117 ∷ 115 ∷ 101 ∷ 100 ∷ 32 ∷ 49 ∷ 53 ∷ 32 ∷ 52 ∷ 48 ∷ 57 ∷ 53 ∷ 10 ∷ []) ∷ []

@@ -25,7 +25,7 @@ book_of lent = book lent.n lent.m lent.bids.now lent.capacities.now
 abbrev pub pool : Book → ℕ → ℤ
 pool B i = get_or B.bids (bid_numbers * i) (pos 0)
 
--- "limit price": its whole part
+-- "limit price": its whole part, which the documents call the price where the hundredths stand beside it
 abbrev pub whole_price : Book → ℕ → ℤ
 whole_price B i = get_or B.bids (bid_numbers * i + price_place) (pos 0)
 
@@ -37,7 +37,7 @@ quantity B i = get_or B.bids (bid_numbers * i + quantity_place) (pos 0)
 abbrev pub hundredths : Book → ℕ → ℤ
 hundredths B i = get_or B.bids (bid_numbers * i + hundredths_place) (pos 0)
 
--- "added to the price (−3 with 25 is −2.75)": a price, as whole hundredths
+-- "added to the price (−3 with 25 is −2.75)": a price as a number of hundredths
 abbrev pub in_hundredths : (whole hundredths : ℤ) → ℤ
 in_hundredths whole hundredths = whole *ℤ pos hundred +ℤ hundredths
 

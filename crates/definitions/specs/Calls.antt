@@ -1,8 +1,9 @@
--- Each call: one function from all its input to its refusal, and what it then leaves and gives (document 01, 'Who is turned away').
+-- Each call: one function from all its input to its refusal, and what it then leaves and gives (document 01, 'Who is turned away', with refusal 5 and
+-- the results as document 02, request 5, has them).
 -- "Numbers 1, 2, 3 come first, lowest first, then 13, 14, 15 in this order, then bids one by one (4, 5, 6), then capacities .. Then orders".
 use Rattle.std.specs.Prelude.{ℕ, zero, suc, ◌+◌, ◌*◌, ◌≡◌, Bool, cond, ◌&&◌, ◌||◌, List, map, ltb, eqb, length, get_or, take, drop, ℤ, pos, neg_ℤ}
 use Rattle.std.specs.Int.Signed.{le_z}
-use Rattle.definitions.specs.Limits.{bid_limit, pool_limit, whole_limit, hundredths_limit, price_limit, quantity_limit, capacity_limit, cell_count, modulus, bid_numbers, pool_results}
+use Rattle.definitions.specs.Limits.{bid_limit, pool_limit, whole_limit, hundredths_limit, price_limit, quantity_limit, capacity_limit, cell_count, modulus, bid_numbers, pool_results, hundredths_result, presence_result}
 use Rattle.definitions.specs.Arithmetic.{within, eq_z, reading}
 use Rattle.definitions.specs.Book.{Book, pool, whole_price, quantity, hundredths, in_hundredths, capacity_entry}
 use Rattle.definitions.specs.Sheet.{sealed_sheet, first_result, result_count}
@@ -131,11 +132,11 @@ pool_place n m p = n + m * m + pool_results * p
 
 -- of its hundredths
 abbrev pub pool_hundredths_place : (n m p : ℕ) → ℕ
-pool_hundredths_place n m p = pool_place n m p + 1
+pool_hundredths_place n m p = pool_place n m p + hundredths_result
 
 -- and of its presence
 abbrev pub presence_place : (n m p : ℕ) → ℕ
-presence_place n m p = pool_place n m p + 2
+presence_place n m p = pool_place n m p + presence_result
 
 -- the accepted amounts among them, and the flows
 abbrev pub amounts_of : (n : ℕ) (results : List ℤ) → List ℤ

@@ -1,4 +1,5 @@
--- Feasible clearings, welfare, the merit order, the best clearing and its flows (document 01, 'The best clearing').
+-- Feasible clearings, welfare, the merit order, the best clearing and its flows (document 01, 'The best clearing'), by prices in hundredths (document 02,
+-- request 5).
 -- Nothing here says how a clearing is found.
 use Rattle.std.specs.Prelude.{ℕ, ◌+◌, ◌-◌, ◌≤◌, ◌<◌, ◌≡◌, Bool, true, cond, ◌&&◌, ◌||◌, ltb, ℤ, pos, ◌-ℤ◌, ◌*ℤ◌}
 use Rattle.std.specs.Int.Signed.{lt_z}
@@ -45,7 +46,8 @@ welfare B accepted =
     -ℤ sum_z B.n (λ i. cond (sale B i) (value B accepted i) (pos 0))
 
 -- Bid j comes before bid i. "Merit order: lower limit price first; at equal price sales before purchases;
--- equal sales by lower bid number; equal purchases by higher bid number." "Prices are equal only if both parts are": a theorem, `equal_prices`.
+-- equal sales by lower bid number; equal purchases by higher bid number." "Prices are equal only if both parts are": a theorem,
+-- `equal_prices` in theory.
 unfoldable pub before : Book → (j i : ℕ) → Bool
 before B j i =
     lt_z (price B j) (price B i)

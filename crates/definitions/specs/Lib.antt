@@ -1,4 +1,4 @@
--- Document 01 as definitions, in its order, with the pool price as document 02 defines it anew; then what document 02 adds.
+-- Document 01 as definitions, in its order, with the pool price and the hundredths of prices as document 02 has them; then what document 02 adds.
 pub mod Limits
 pub mod Arithmetic
 pub mod Book

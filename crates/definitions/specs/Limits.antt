@@ -49,7 +49,7 @@ greatest_positive = 1073741823
 abbrev pub bid_numbers : ℕ
 bid_numbers = 4
 
--- "pool .., limit price .., quantity", and "last" the hundredths: the places of the last three; the pool comes first
+-- "pool .., limit price .., quantity", and "last" the hundredths: the places of the last three in a bid's row of the table; the pool comes first
 abbrev pub price_place : ℕ
 price_place = 1
 
@@ -62,3 +62,10 @@ hundredths_place = 3
 -- "for each pool two cells, its price and a presence cell"; now "a pool's result takes three (price, hundredths, presence ..)"
 abbrev pub pool_results : ℕ
 pool_results = 3
+
+-- the places of the last two among these; the price comes first
+abbrev pub hundredths_result : ℕ
+hundredths_result = 1
+
+abbrev pub presence_result : ℕ
+presence_result = 2

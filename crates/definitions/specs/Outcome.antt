@@ -1,4 +1,5 @@
--- What a sheet holds after the whole plan, and what clearing leaves and gives (document 01, 'The plan').
+-- What a sheet holds after the whole plan, and what clearing leaves and gives (document 01, 'The plan'; results and limit as document 02, request 5, has
+-- them).
 use Rattle.std.specs.Prelude.{ℕ, ◌+◌, ◌*◌, ◌^◌, ◌≤◌, ◌<◌, ◌≡◌, List, [], ◌∷◌, ◌++◌, length, ℤ, pos}
 use Rattle.definitions.specs.Limits.{cell_count}
 use Rattle.definitions.specs.Arithmetic.{join_to}

@@ -1,4 +1,5 @@
--- A pool's price (document 02, request 4, in the place of document 01's): the least limit price at which one more unit could be had there.
+-- A pool's price (document 02, request 4, in the place of document 01's): the least limit price at which one more unit could be had there; in two parts
+-- by request 5.
 use Rattle.std.specs.Prelude.{ℕ, zero, suc, Bool, cond, ◌&&◌, ◌||◌, ltb, eqb, ℤ}
 use Rattle.std.specs.Int.Signed.{lt_z}
 use Rattle.definitions.specs.Arithmetic.{any_to, residue}

@@ -1,6 +1,6 @@
 -- The sheet: what sealing writes, and where the results stand (document 01, 'Tables and sealing', and document 02, request 5).
 use Rattle.std.specs.Prelude.{ℕ, ◌+◌, ◌-◌, ◌*◌, List, ◌++◌, map, length, replicate}
-use Rattle.definitions.specs.Limits.{cell_count, bid_numbers, pool_results}
+use Rattle.definitions.specs.Limits.{cell_count, bid_numbers, pool_results, hundredths_result, presence_result}
 use Rattle.definitions.specs.Arithmetic.{residue}
 use Rattle.definitions.specs.Book.{Book}
 
@@ -29,11 +29,11 @@ price_cell n m p = first_result n m + n + m * m + pool_results * p
 
 -- its hundredths
 abbrev pub hundredths_cell : (n m p : ℕ) → ℕ
-hundredths_cell n m p = price_cell n m p + 1
+hundredths_cell n m p = price_cell n m p + hundredths_result
 
 -- "and a presence cell"
 abbrev pub presence_cell : (n m p : ℕ) → ℕ
-presence_cell n m p = price_cell n m p + 2
+presence_cell n m p = price_cell n m p + presence_result
 
 -- all "n + m × m + 3 × m cells" of the results
 abbrev pub result_count : (n m : ℕ) → ℕ

@@ -51,15 +51,19 @@ impl Limits {
 
     pub const HUNDREDTHS_PLACE: usize = 3;
 
-    // How many results a pool has: its price, its hundredths and its presence.
+    // How many results a pool has: its price, its hundredths and its presence; the places of the last two.
     pub const POOL_RESULTS: usize = 3;
+
+    pub const HUNDREDTHS_RESULT: usize = 1;
+
+    pub const PRESENCE_RESULT: usize = 2;
 }
 
 // A price in hundredths, from its two parts. In 64 bits it fits for any two numbers.
-pub fn price_in_hundredths(price: i32, hundredths: i32) -> i64
-    ensures { result ≡ in_hundredths price hundredths }
+pub fn price_in_hundredths(whole: i32, hundredths: i32) -> i64
+    ensures { result ≡ in_hundredths whole hundredths }
 {
-    price as i64 * Limits::HUNDRED as i64 + hundredths as i64
+    whole as i64 * Limits::HUNDRED as i64 + hundredths as i64
 }
 
 // An order of the machine: its target cell d, then a constant or the two cells that it reads. Document 01 names this form.

@@ -16,7 +16,7 @@ still_accepted B h = refusal_same B cell_count ∙ h
 
 pub as_before : (B : earlier.Book) → AsBefore B
 as_before B = record {
-  refusal = refusal_same B;
+  accepted = still_accepted B;
   best = best B;
   was_best = λ c h. was_best B (same_clearing c) h;
   existed = λ h. let found = best_exists (widened_book B) (still_accepted B h) in (earlier_clearing found.0, was_best B found.0 found.1);

@@ -3,13 +3,13 @@
 use Rattle.std.specs.Prelude.{ℕ, ◌<◌, ◌≡◌, pos, ◌*ℤ◌}
 use Rattle.definitions.specs.Limits.{hundred}
 use Rattle.definitions.specs.Clearing.{Clearing, Best, welfare}
-use Rattle.definitions.specs.Calls.{seal_refusal}
+use Rattle.definitions.specs.Calls.{AcceptedBook}
 use Rattle.earlier.specs.Earlier as earlier
 use Rattle.earlier.specs.Widened.{widened_book, same_clearing}
 
 pub record AsBefore (B : earlier.Book) : Type 0 where
-  -- it is refused as it was, with the same number and place, and so accepted exactly if it was
-  pub refusal : (cells : ℕ) → seal_refusal (widened_book B) cells ≡ earlier.seal_refusal B cells
+  -- it is accepted if it was; more is so, `refusal_same`
+  pub accepted : earlier.AcceptedBook B → AcceptedBook (widened_book B)
   -- a clearing is best exactly if it was
   pub best : (c : earlier.Clearing) → earlier.Best B c → Best (widened_book B) (same_clearing c)
   pub was_best : (c : earlier.Clearing) → Best (widened_book B) (same_clearing c) → earlier.Best B c

@@ -1,5 +1,5 @@
--- What was: limits, books, best clearings and refusals as they stood with three numbers a bid. The sums, tests and refusals that they speak of have not
--- changed and are those of definitions. Then what is said of it.
+-- What was: limits, books, best clearings and refusals as they stood with three numbers a bid. The sums, tests and the form of a refusal that they speak
+-- of have not changed and are those of definitions (Arithmetic, Answers). Then what is said of it.
 pub mod Limits
 pub mod Book
 pub mod Clearing

@@ -51,6 +51,7 @@ pub record Edges : Type 0 where
   pub bids_pass : AcceptedBook (book_of 64 1)
   pub bids_are_1 : seal_refusal (book_of 65 1) cell_count ≡ refuse 1 0
 
+-- Welfare is in hundredths: 100 times what document 01 says.
 pub record ProvedExamples : Type 0 where
   -- "m 1; (1,20,−10), (1,30,6): accepted 6, 6; welfare 60; price 20."
   pub one : Cleared book_one (6 ∷ 6 ∷ []) (0 ∷ []) (present (pos 20) (pos 0) ∷ []) (pos 6000)

@@ -1,2 +1,2 @@
--- Document 01's proved examples, and the rerouting of its costly mistakes.
+-- Document 01's proved examples and edges, and those of the hundredths.
 pub mod Examples

@@ -1,2 +1,3 @@
-// The worked examples of document 01, proved from its definitions in one statement. The definitions stand in specs/, the theorems in specs/ and proofs/.
+// The worked examples of document 01, and of document 02's hundredths, proved from the definitions in one statement, which stands in specs/; the theorems
+// stand in proofs/.
 #![tactic(auto)]

@@ -97,7 +97,7 @@ within_from_zero k v z e h = rw (e, le-leb 0 v (omega arith)) (le-leb v k h)
 -- ---- a price in two parts
 
 -- of a negative whole part: the hundredths are added, so they take off its size
-below_zero : (v k : ℕ) → k ≤ hundredths_limit → in_hundredths (negsuc v) (pos k) ≡ negsuc (hundred * v + (hundredths_limit - k))
+pub below_zero : (v k : ℕ) → k ≤ hundredths_limit → in_hundredths (negsuc v) (pos k) ≡ negsuc (hundred * v + (hundredths_limit - k))
 below_zero v k l =
     let e : suc v * hundred ≡ suc (hundredths_limit + v * hundred) = omega arith in
     ap (λ (x : ℕ). neg_ℤ (pos x) +ℤ pos k) e ∙ go (lt? k (suc (hundredths_limit + v * hundred)))
@@ -256,8 +256,8 @@ module _ (B : Book) (ok : Sound B) where
   lengths_pass : length_refusal (tables_right B && eqb cell_count cell_count) ≡ none
   lengths_pass = rw (eq-eqb _ _ ok.bid_table, eq-eqb _ _ ok.capacity_table) refl
 
-  price_pass : (i : ℕ) → i < B.n → price_in_range (whole_price B i) (hundredths B i) ≡ true
-  price_pass i l =
+  pub price_right : (i : ℕ) → i < B.n → price_in_range (whole_price B i) (hundredths B i) ≡ true
+  price_right i l =
       price_passes (whole_price B i) (hundredths B i) (hundredths_part B i) (ok.whole_size i l) (ok.hundredths_is i l) (ok.hundredths_small i l) (ok.price_size i l)
 
   bids_pass : bids_refusal B ≡ none
@@ -266,7 +266,7 @@ module _ (B : Book) (ok : Sound B) where
       none_all B.n _
       (λ i l.
       ap (λ (k : ℕ). numbered k (i + 1))
-      (bid_passes B.m (pool_index B i) (pool B i) (whole_price B i) (quantity B i) (hundredths B i) (ok.pool_is i l) (ok.pool_index_lem i l) (price_pass i l) (ok.size_small i l)))
+      (bid_passes B.m (pool_index B i) (pool B i) (whole_price B i) (quantity B i) (hundredths B i) (ok.pool_is i l) (ok.pool_index_lem i l) (price_right i l) (ok.size_small i l)))
 
   entry_pass : (a b : ℕ) → a < B.m → b < B.m → entry_refusal B a b ≡ none
   entry_pass a b l r =

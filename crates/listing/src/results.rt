@@ -38,8 +38,11 @@ impl Results<'_> {
         ensures { result ≡ priced (result_at self.now.numbers.now (pool_place self.now.counts.n self.now.counts.m p)) (result_at self.now.numbers.now (pool_hundredths_place self.now.counts.n self.now.counts.m p)) (result_at self.now.numbers.now (presence_place self.now.counts.n self.now.counts.m p)) }
     {
         let at = self.counts.n + self.counts.lines() + Limits::POOL_RESULTS * p;
-        let price = price_in_hundredths(self.numbers[at], self.numbers[at + 1]);
-        let presence = self.numbers[at + 2];
+        let price = price_in_hundredths(
+            self.numbers[at],
+            self.numbers[at + Limits::HUNDREDTHS_RESULT],
+        );
+        let presence = self.numbers[at + Limits::PRESENCE_RESULT];
         (0 < presence).then_some(price)
     }
 }

@@ -9,7 +9,8 @@ ghost use Rattle.plan.specs.Blocks.{size_block, positive_price_block, cut_turn, 
 ghost use Rattle.orders.specs.Named.{name_of, named_of, made, moved};
 
 use crate::names::{
-    HUNDREDTHS, Name, NamedOrder, QUANTITY, cell, difference, first, less, own, product, sum,
+    HUNDREDTHS_PLACE, HUNDREDTHS_RESULT, Name, NamedOrder, PRESENCE_RESULT, QUANTITY_PLACE, cell,
+    difference, first, less, own, product, sum,
 };
 use crate::sets::{is_leaving, other_pools, subset_count};
 use definitions::Counts;
@@ -45,8 +46,8 @@ pub fn size_order(i: usize, turn: usize) -> NamedOrder
     ensures { named_of result ≡ made (size_block i) turn }
 {
     match turn {
-        0 => product(own(0), cell(Bids, i, QUANTITY), first(Sides, i)),
-        1 => difference(own(1), cell(Bids, i, QUANTITY), own(0)),
+        0 => product(own(0), cell(Bids, i, QUANTITY_PLACE), first(Sides, i)),
+        1 => difference(own(1), cell(Bids, i, QUANTITY_PLACE), own(0)),
         _ => difference(first(Sizes, i), own(0), own(1)),
     }
 }
@@ -58,7 +59,11 @@ pub fn positive_price_order(i: usize, turn: usize) -> NamedOrder
 {
     match turn {
         0 => product(own(0), first(WholePrices, i), first(Hundreds, 0)),
-        _ => sum(first(PositivePrices, i), own(0), cell(Bids, i, HUNDREDTHS)),
+        _ => sum(
+            first(PositivePrices, i),
+            own(0),
+            cell(Bids, i, HUNDREDTHS_PLACE),
+        ),
     }
 }
 
@@ -94,16 +99,20 @@ pub fn price_order(p: usize, turn: usize) -> NamedOrder
 {
     match turn {
         0 => less(
-            cell(Prices, p, 2),
+            cell(Prices, p, PRESENCE_RESULT),
             first(ZeroCells, 0),
             first(BestMargins, p),
         ),
         1 => difference(own(0), first(PoolWholes, p), first(Shifts, 0)),
-        2 => product(first(Prices, p), own(0), cell(Prices, p, 2)),
+        2 => product(first(Prices, p), own(0), cell(Prices, p, PRESENCE_RESULT)),
         3 => product(own(0), first(PoolWholes, p), first(Hundreds, 0)),
         4 => difference(own(1), first(Tops, 0), first(BestMargins, p)),
         5 => difference(own(1), own(1), own(0)),
-        _ => product(cell(Prices, p, 1), own(1), cell(Prices, p, 2)),
+        _ => product(
+            cell(Prices, p, HUNDREDTHS_RESULT),
+            own(1),
+            cell(Prices, p, PRESENCE_RESULT),
+        ),
     }
 }
 

@@ -13,8 +13,8 @@ use crate::blocks::{
     price_order, reach_turn, rest_turn, size_order, subset_order, take_turn, test_order,
 };
 use crate::names::{
-    HUNDRED, NamedOrder, PRICE, QUANTITY, SHIFT, TOP, cell, difference, equal, first, less, own,
-    product, sum,
+    HUNDRED, NamedOrder, PRICE_PLACE, QUANTITY_PLACE, SHIFT, TOP, cell, difference, equal, first,
+    less, own, product, sum,
 };
 use crate::sets::{lowest_pool, subset_count};
 use crate::shape::{NONE, ONE, Shape, Spot, many};
@@ -70,7 +70,7 @@ pub fn shape_of(counts: Counts, scratch: usize, k: usize) -> Shape
     }
 }
 
-// Demands, placements and greatest margins each clear a cell before they gather in it, and cuts and slacks each sum over the sets first: one line each,
+// Demands, placements and greatests each clear a cell before they gather in it, and cuts and slacks each sum over the sets first: one line each,
 // which a function for them would not spare.
 
 // An order of the demand of a pool.
@@ -259,12 +259,12 @@ pub fn order_of(counts: Counts, k: usize, s: Spot) -> NamedOrder
         5 => less(
             first(Sides, i),
             first(ZeroCells, 0),
-            cell(Bids, i, QUANTITY),
+            cell(Bids, i, QUANTITY_PLACE),
         ),
         6 => size_order(i, s.turn),
         7 => sum(
             first(WholePrices, i),
-            cell(Bids, i, PRICE),
+            cell(Bids, i, PRICE_PLACE),
             first(Shifts, 0),
         ),
         8 => positive_price_order(i, s.turn),

@@ -1,4 +1,4 @@
--- The run of the plan from the sealed sheet of a sound book leaves the closed forms in document 01's result cells, inputs as sealed and 0 in scratch (`plan_clears`).
+-- The run of the plan from the sealed sheet of a sound book leaves the closed forms in the result cells, inputs as sealed and 0 in scratch (`plan_clears`).
 use Rattle.std.specs.Prelude.{◌≡◌, ◌≢◌, Bool, true, length}
 use Rattle.std.proofs.Common.{refl, ap, subst, ◌∙◌, le_refl, lit<, get_or-set_same, List, [], ◌∷◌, ◌++◌, map, ℕ, zero, suc, ◌+◌, ◌*◌, ◌≤◌, ◌<◌, arith, set, get_or-set_other}
 use mathlib.Core.List.{map-append}
@@ -28,7 +28,7 @@ use Rattle.plan.proofs.PlanFacts.{from_scratch, from_end, zero_cell, numbered_wr
 use Rattle.plan.proofs.SealedSheet.{sealed_length, sealed_zero}
 use Rattle.plan.proofs.Sealed.{sealed_state, sealed_inputs}
 
--- what the sheet r holds when book B is cleared, by document 01's cells
+-- what the sheet r holds when book B is cleared, by the definitions' cells
 pub record HoldsClearing (B : Book) (r : List ℕ) : Type 0 where
   pub length_kept : length r ≡ cell_count
   pub inputs_kept : (c : ℕ) → c < first_result B.n B.m → cell r c ≡ cell (sealed_sheet B) c

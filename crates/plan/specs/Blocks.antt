@@ -21,7 +21,7 @@ unit_block i = constant (at Units i 0) 1 ∷ []
 abbrev pub hundred_block : ℕ → Block
 hundred_block i = constant (at Hundreds i 0) hundred ∷ []
 
--- the limit of whole prices and 1
+-- the limit of the whole parts of prices and 1
 abbrev pub shift_block : ℕ → Block
 shift_block i = constant (at Shifts i 0) (suc whole_limit) ∷ []
 
@@ -204,7 +204,7 @@ take_turn l a b S = difference (Slack S) (Slack S) (taken_cell (leaves S a b) (l
 
 -- ---- the prices
 
--- the limit and 1, less the price of bid i in hundredths, if the bid is not used up
+-- the limit of prices in hundredths and 1, less the price of bid i, if the bid is not used up
 abbrev pub margin_block : ℕ → Block
 margin_block i =
     less (Temporary 0) (Used i) (Size i)

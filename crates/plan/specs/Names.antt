@@ -1,7 +1,7 @@
 -- The families of cells: where each stands on the sheet, how many rows and columns it has (`family_place`), and the names of its cells.
 -- What each holds is said where the code declares them, and in Values.
 use Rattle.std.specs.Prelude.{ℕ, ◌*◌, ◌^◌, Bool, ◌&&◌, List, [], ◌∷◌, eqb, get_or}
-use Rattle.definitions.specs.Limits.{bid_numbers, price_place, quantity_place, hundredths_place, pool_results}
+use Rattle.definitions.specs.Limits.{bid_numbers, price_place, quantity_place, hundredths_place, pool_results, hundredths_result, presence_result}
 use Rattle.plan.specs.declared.Place.{Place}
 pub use Rattle.plan.specs.declared.Family.{Family}
 pub use Rattle.plan.specs.declared.Family.TheVariants.{Bids, Capacities, Amounts, Flows, Prices, Temporaries, ZeroCells, Units, Hundreds, Shifts, Tops, PoolNumbers, Sides, Sizes, WholePrices, PositivePrices, Doubles, Keys, Nexts, Memberships, PoolSizes, Demands, Subsets, Cuts, SizesBefore, RanksBefore, SizesWith, RanksWith, Uses, Placements, Slacks, SlackTests, ReachTests, Margins, PoolMargins, BestMargins, PriceTests, PoolWholes}
@@ -129,11 +129,11 @@ PriceOfPool p = at Prices p 0
 
 -- its hundredths, 0 if it has none
 abbrev pub HundredthsOfPool : ℕ → Name
-HundredthsOfPool p = at Prices p 1
+HundredthsOfPool p = at Prices p hundredths_result
 
 -- 1 if pool p has a price, else 0
 abbrev pub Presence : ℕ → Name
-Presence p = at Prices p 2
+Presence p = at Prices p presence_result
 
 -- ---- scratch
 
@@ -153,7 +153,7 @@ One = at Units 0 0
 abbrev pub Hundred : Name
 Hundred = at Hundreds 0 0
 
--- the limit of whole prices and 1
+-- the limit of the whole parts of prices and 1
 abbrev pub Shift : Name
 Shift = at Shifts 0 0
 
@@ -249,7 +249,7 @@ SlackTest S = at SlackTests S 0
 abbrev pub ReachTest : ℕ → Name
 ReachTest l = at ReachTests l 0
 
--- the limit and 1, less the price of bid i in hundredths; 0 if the bid is used up
+-- the limit of prices in hundredths and 1, less the price of bid i; 0 if the bid is used up
 abbrev pub Margin : ℕ → Name
 Margin i = at Margins i 0
 

@@ -22,7 +22,7 @@ pub enum Family {
     Units,
     // The number 100.
     Hundreds,
-    // The limit of whole prices and 1.
+    // The limit of the whole parts of prices and 1.
     Shifts,
     // What a positive price and its margin add up to.
     Tops,
@@ -70,7 +70,7 @@ pub enum Family {
     SlackTests,
     // Whether the pool where a line begins reaches the pool where it ends, as 1 or 0.
     ReachTests,
-    // The limit and 1, less each bid's price; 0 for a bid that is used up, which no margin is otherwise.
+    // The limit of prices in hundredths and 1, less each bid's price; 0 for a bid that is used up, which no margin is otherwise.
     Margins,
     // The greatest margin in each pool.
     PoolMargins,

@@ -12,7 +12,7 @@ use std::io;
 struct Replay {}
 
 impl Replay {
-    // Room for the bytes of a plan: the longest, for 64 bids and 4 pools, has about 393,000.
+    // Room for the bytes of a plan: the longest, for 64 bids and 4 pools, has about 408,000.
     const ROOM: usize = 524_288;
 }
 

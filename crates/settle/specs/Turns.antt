@@ -92,7 +92,7 @@ pub record ReadWhole (before : List ℤ) (input : Input) (numbers : List ℤ) : 
 abbrev pub NothingCleared : (printed : List ℕ) → Type 0
 NothingCleared printed = (printed ≡ unreadable_text) ⊎ ((printed ≡ refused_text 1 0) ⊎ (printed ≡ refused_text 2 0))
 
--- what document 01 has printed for the text that some reads give; and nothing is cleared where no read has found its end
+-- what the documents have printed for the text that some reads give; and nothing is cleared where no read has found its end
 pub record PrintsWhole (printed : List ℕ) : Type 0 where
   pub reads : ℕ → ReadAnswer
   pub whole : printed ≡ settle_text plan (text_of read_limit reads)

@@ -37,7 +37,7 @@ settled_sheet plan unreadable room sheet = sheet
 settled_sheet plan (refused r) room sheet = sheet
 settled_sheet plan (readable B) room sheet = cond (leb text_room room) (clear_sheet plan B sheet) sheet
 
--- with 4,096 cells and room for it, what document 01 has printed for the text lies over the slice, and r is its size
+-- with 4,096 cells and room for it, what the documents have printed for the text lies over the slice, and r is its size
 abbrev pub Prints : Plan → (text : List ℕ) (cells : ℕ) (out : List ℕ) (r : ℕ) (after : List ℕ) → Type 0
 Prints plan text cells out r after =
     cells ≡ cell_count → text_room ≤ length out → (r ≡ length (settle_text plan text)) × (after ≡ over (settle_text plan text) out)

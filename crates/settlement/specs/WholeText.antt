@@ -1,4 +1,4 @@
--- What settling gives on a sheet of 4,096 cells, with room for the text, is what document 01 has printed (`settled_over`, `settled_first`), also
+-- What settling gives on a sheet of 4,096 cells, with room for the text, is what the documents have printed (`settled_over`, `settled_first`), also
 -- where the text was read in pieces (`settles`).
 use Rattle.std.specs.Prelude.{ℕ, ◌≤◌, ◌≡◌, refl, Bool, true, false, List, leb, length, take, drop, ℤ}
 use Rattle.std.proofs.Common.{sym, ap, ◌∙◌, arith, length-append, length-drop, take_at, length-take-le, le-leb, leb-true}
@@ -82,7 +82,7 @@ settled_first plan input cells r out after size bytes e h =
     let o = settled_over plan input cells r out after size bytes e h in
     rw (o.0, o.1) (take_at (input_text plan input) (drop (length (input_text plan input)) out) (length (input_text plan input)) refl)
 
--- a text that was read in pieces, however it is cut: the first bytes of the slice are document 01's for the whole
+-- a text that was read in pieces, however it is cut: the first bytes of the slice are the documents' for the whole
 pub settles : (plan : Plan) (stored : List ℤ) (pieces : List (List ℕ)) (cells : ℕ) (out : List ℕ)
     → length stored ≡ table_numbers → cells ≡ cell_count → text_room ≤ length out
     → let input = pieces_read stored pieces in

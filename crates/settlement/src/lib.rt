@@ -1,5 +1,5 @@
 // From a text to the text that settle prints: clears the book, opens its results and lists them, or names the refusal.
-// specs/ say what is printed and left for every input, and that this is what document 01 says. Where out has less room than a listing may
+// specs/ say what is printed and left for every input, and that this is what the documents say. Where out has less room than a listing may
 // need, every call here gives 0 and leaves sheet and out as they are. `settled_size`, `settled_sheet` and `settled_slice` are three clauses and
 // not one: a caller cites each alone, and `write_why` has no sheet.
 #![tactic(auto)]

@@ -1,4 +1,4 @@
--- What settle's reader keeps of a text, and that a whole text gives what document 01 says.
+-- What settle's reader keeps of a text, and that a whole text gives what the documents say.
 pub mod Reading
 pub mod Steps
 pub mod Texts

@@ -1,4 +1,4 @@
--- Last theorem: a text that is read in pieces, however it is cut, is what document 01 says of the whole (`reads_pieces`).
+-- Last theorem: a text that is read in pieces, however it is cut, is what the documents say of the whole (`reads_pieces`).
 use Rattle.std.specs.Prelude.{ℕ, ◌≡◌, refl, List, [], ◌∷◌, ◌++◌, length, ℤ}
 use Rattle.std.proofs.Common.{ap, ◌∙◌}
 use Rattle.definitions.specs.Settle.{Input, settle_input}

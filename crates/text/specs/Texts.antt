@@ -1,4 +1,4 @@
--- Last theorem: a text, read byte by byte from its start to its end, is what document 01 says of it (`reads`).
+-- Last theorem: a text, read byte by byte from its start to its end, is what the documents say of it (`reads`).
 use Rattle.std.specs.Prelude.{ℕ, ◌≡◌, refl, Bool, true, false, List, [], ◌∷◌, ◌++◌, length, replicate, ℤ, pos, Ok, Err}
 use Rattle.std.proofs.Common.{sym, ap, ◌∙◌, true≢false, append-nil}
 use Rattle.definitions.specs.Settle.{blank, ended, words, words_from, whole_of, settle_input}
@@ -90,7 +90,7 @@ none_stored = replicate table_numbers (pos 0)
 abbrev pub whole_read : (before : List ℤ) (text : List ℕ) → Reading
 whole_read before text = word_ended (fed (read_so_far start_reader before) text)
 
--- it is what document 01 says of it
+-- it is what the documents say of it
 pub reads : (before : List ℤ) (text : List ℕ) → length before ≡ table_numbers → let read = whole_read before text in input_for (answer_so_far read) read.numbers ≡ settle_input text
 unfolding settle_input words word_from finished
 reads before text l = reads_from text [] (Ok stage.First) before tt l

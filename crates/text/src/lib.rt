@@ -1,5 +1,5 @@
 // Settle's reader: the text comes piece by piece, and what was read of it is a small state by value.
-// specs/ say what each step gives, and that a whole text gives what document 01 says, however it is cut.
+// specs/ say what each step gives, and that a whole text gives what the documents say, however it is cut.
 #![tactic(auto)]
 
 ghost use Rattle.std.specs.Prelude.{◌≡◌};

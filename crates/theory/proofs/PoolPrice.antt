@@ -11,10 +11,10 @@ use Rattle.definitions.specs.Book.{Book, whole_price, hundredths, price, size, i
 use Rattle.definitions.specs.Clearing.{Clearing, Feasible, Best, used}
 use Rattle.definitions.specs.PoolPrice.{PoolPrice, missing, present, lower_price, least_price, supplies, reaches, pool_price, price_residue, hundredths_residue, presence}
 use Rattle.definitions.specs.Machine.{minus}
-use Rattle.definitions.specs.Calls.{AcceptedBook}
+use Rattle.definitions.specs.Calls.{AcceptedBook, price_in_range}
 use Rattle.laws.specs.Any.{any_to_some, any_to_made, any_to_one}
 use Rattle.laws.specs.Extremes.{max_to, max_ext, max_of_same, max_of_groups}
-use Rattle.laws.specs.AcceptedBook.{Sound, accepted_sound, pool_index, raised_whole, hundredths_part, in_pool_lem}
+use Rattle.laws.specs.AcceptedBook.{Sound, accepted_sound, price_right, pool_index, raised_whole, hundredths_part, in_pool_lem}
 use Rattle.theory.specs.Choices.{on_on, on_and, and_both, and_made}
 use Rattle.theory.specs.Integers.{RaisedBy, less_le, not_less}
 use Rattle.theory.specs.Hundredths.{parts_apart, whole_raised}
@@ -124,6 +124,19 @@ module _ (B : Book) (sound : Sound B) (p : ℕ) where
       let found : pool_whole B p ≡ positive_whole B i = whole_found i l there same in
       rw (found, best, lt-ltb 0 (price_margin B i) positive, sound.hundredths_is i l)
       (whole_cell (whole_price B i) (raised_whole B i) (whole_raised B sound i l) (sound.whole_small i l), omega (arith, sound.price_small i l), refl)
+
+-- the parts of a price are in range, if it has any
+abbrev parts_in_range : PoolPrice → Bool
+parts_in_range missing = true
+parts_in_range (present w h) = price_in_range w h
+
+-- the parts of a pool's price are those of a bid, and so in range: the whole part is rounded down, the hundredths are 0 to 99
+pub price_in_parts : (B : Book) → AcceptedBook B → (c : Clearing) (p : ℕ) → p < B.m → (w h : ℤ) → pool_price B c p ≡ present w h → price_in_range w h ≡ true
+price_in_parts B a c p r w h e = ap parts_in_range (sym e) ∙ go (pool_price_is B c p r)
+  where
+    go : {x : PoolPrice} → LeastPrice B (Supplies B c p) B.n x → parts_in_range x ≡ true
+    go (none _) = refl
+    go (some i l s _) = price_right B (accepted_sound B a) i l
 
 -- ---- of a best clearing
 

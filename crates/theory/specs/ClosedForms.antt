@@ -116,7 +116,7 @@ module _ (B : Book) where
   unfoldable pub reached : (q p : ℕ) → Bool
   reached q p = all_to (2 ^ B.m) (unparted q p)
 
-  -- the limit and 1, less the price of bid i: the greater the lower the price, and never 0
+  -- the limit of prices in hundredths and 1, less the price of bid i: the greater the lower the price, and never 0
   abbrev pub price_margin : ℕ → ℕ
   price_margin i = top - positive_price i
 

@@ -1,5 +1,5 @@
--- What a pool price is, in the request's words (`LeastPrice` of the bids that `Supplies` says), and how a plan finds it: by a greatest, of the limit
--- and 1 less the price over these bids (`least_price_margin`).
+-- What a pool price is, in the request's words (`LeastPrice` of the bids that `Supplies` says), and how a plan finds it: by a greatest, of the limit of
+-- prices in hundredths and 1, less the price, over these bids (`least_price_margin`).
 use Rattle.std.specs.Prelude.{◌≡◌, Bool, true, false, cond, ◌&&◌, ltb, ℤ, ◌≤ℤ◌, refl, ℕ, zero, suc, ◌≤◌, ◌<◌, max}
 use Rattle.std.proofs.Common.{ap₂, arith}
 use Rattle.definitions.specs.Limits.{price_limit}
@@ -41,7 +41,7 @@ least_price_ext B s t (suc k) e =
 
 -- ---- as a greatest
 
--- h is the limit and 1, less the price; 0 for a missing price
+-- h is the limit of prices in hundredths and 1, less the price; 0 for a missing price
 abbrev pub IsMargin : PoolPrice → ℕ → Type 0
 IsMargin missing h = h ≡ 0
 IsMargin (present w k) h = RaisedBy h (in_hundredths w k) (suc price_limit) × (0 < h)

@@ -1,4 +1,5 @@
-// Settle's texts with their printed texts: document 01's examples 1 to 7, the book of its costly mistakes, and the edges of its limits.
+// Settle's texts with their printed texts: document 01's examples 1 to 7, the book of its costly mistakes, prices with hundredths, and the edges of the
+// limits.
 use definitions::Limits;
 use listing::Listing;
 use settlement::settle_text;
@@ -43,7 +44,7 @@ pub fn show_all(rt: &impl Print) -> io::Result<()> {
             ("two offers at 25:", "3 1 1 25 -5 40 1 25 -5 10 1 30 6 0 0"),
             ("a hundredth too little:", "2 1 1 25 -5 10 1 25 5 9 0"),
             ("hundredths below 0:", "3 1 1 -3 -4 25 1 -3 -4 0 1 -2 5 0 0"),
-            ("beside 0:", "2 2 1 -1 -2 50 2 0 -2 50 0 0 0 0"),
+            ("beside 0, and no price:", "2 3 1 -1 -2 50 2 0 -2 75 0 0 0 0 0 0 0 0 0"),
             ("next to both ends:", "2 2 1 -30000 -1 99 2 29999 -1 99 0 0 0 0"),
             // What is refused, and by which number.
             ("price too high:", "1 1 1 30001 5 0 0"),

@@ -1,4 +1,4 @@
--- `settle_text` meets its contract: the input read is the one that document 01 says the text is.
+-- `settle_text` meets its contract: the input read is the one that the documents say the text is.
 use Rattle.std.proofs.Common.{length, ap, ◌∙◌}
 use Rattle.definitions.specs.Settle.{Input, settle_input, settle_text}
 use Rattle.plan.specs.Plan.{plan}

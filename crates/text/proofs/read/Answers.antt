@@ -1,4 +1,4 @@
--- What the reader answers to the whole text is what document 01 says of it.
+-- What the reader answers to the whole text is what the documents say of it.
 use Rattle.std.proofs.Common.{refl}
 use Rattle.text.specs.Texts.{none_stored, reads}
 use Rattle.text.proofs.read.Goals as goal
