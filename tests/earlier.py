@@ -1,7 +1,7 @@
 """Books of three numbers a bid, as they were refused and cleared before request 5 of document 02: pool, price and quantity, and no hundredths known.
 
-Kept as it stood, and sharing nothing with tests/solver.py, which it is held against: `refusal` gives the number and place, or None, `accepted` the
-accepted amounts."""
+Kept as it stood: the same search for paths as tests/solver.py, which it is held against, with the refusals and the merit order of then. `refusal`
+gives the number and place, or None, `accepted` the accepted amounts."""
 from collections import deque
 
 BIDS, POOLS, PRICE, QUANTITY, CAPACITY = 64, 4, 30_000, 65_535, 1_000_000

@@ -25,6 +25,7 @@ impl Limits {
 
     pub const HUNDREDTHS: i32 = 99;
 
+    // How many hundredths make one.
     pub const HUNDRED: i32 = 100;
 
     // Of a price in hundredths.
@@ -60,10 +61,10 @@ impl Limits {
 }
 
 // A price in hundredths, from its two parts. In 64 bits it fits for any two numbers.
-pub fn price_in_hundredths(whole: i32, hundredths: i32) -> i64
-    ensures { result ≡ in_hundredths whole hundredths }
+pub fn price_in_hundredths(price: i32, hundredths: i32) -> i64
+    ensures { result ≡ in_hundredths price hundredths }
 {
-    whole as i64 * Limits::HUNDRED as i64 + hundredths as i64
+    price as i64 * Limits::HUNDRED as i64 + hundredths as i64
 }
 
 // An order of the machine: its target cell d, then a constant or the two cells that it reads. Document 01 names this form.

@@ -5,15 +5,12 @@
 ghost use Rattle.std.specs.Prelude.{◌≡◌, ◌<◌, ◌^◌, [], ◌∷◌};
 ghost use Rattle.plan.specs.Orders.{sum, product};
 ghost use Rattle.plan.specs.Running.{subset_block};
-ghost use Rattle.plan.specs.Blocks.{size_block, positive_price_block, cut_turn, test_order, cost_turn, amount_block, reach_turn, rest_turn, take_turn, margin_block, greatest_turn, price_block};
+ghost use Rattle.plan.specs.Blocks.{size_block, raised_price_block, cut_turn, test_order, cost_turn, amount_block, reach_turn, rest_turn, take_turn, margin_block, greatest_turn, price_block};
 ghost use Rattle.orders.specs.Named.{name_of, named_of, made, moved};
 
-use crate::names::{
-    HUNDREDTHS_PLACE, HUNDREDTHS_RESULT, Name, NamedOrder, PRESENCE_RESULT, QUANTITY_PLACE, cell,
-    difference, first, less, own, product, sum,
-};
+use crate::names::{Name, NamedOrder, cell, difference, first, less, own, product, sum};
 use crate::sets::{is_leaving, other_pools, subset_count};
-use definitions::Counts;
+use definitions::{Counts, Limits};
 use plan::Family::*;
 
 // The product of cells a and b, in cell t, added to cell d.
@@ -46,23 +43,27 @@ pub fn size_order(i: usize, turn: usize) -> NamedOrder
     ensures { named_of result ≡ made (size_block i) turn }
 {
     match turn {
-        0 => product(own(0), cell(Bids, i, QUANTITY_PLACE), first(Sides, i)),
-        1 => difference(own(1), cell(Bids, i, QUANTITY_PLACE), own(0)),
+        0 => product(
+            own(0),
+            cell(Bids, i, Limits::QUANTITY_PLACE),
+            first(Sides, i),
+        ),
+        1 => difference(own(1), cell(Bids, i, Limits::QUANTITY_PLACE), own(0)),
         _ => difference(first(Sizes, i), own(0), own(1)),
     }
 }
 
-// The price of bid i in hundredths, made positive.
-pub fn positive_price_order(i: usize, turn: usize) -> NamedOrder
+// The price of bid i in hundredths, raised.
+pub fn raised_price_order(i: usize, turn: usize) -> NamedOrder
     requires { turn < 2 }
-    ensures { named_of result ≡ made (positive_price_block i) turn }
+    ensures { named_of result ≡ made (raised_price_block i) turn }
 {
     match turn {
-        0 => product(own(0), first(WholePrices, i), first(Hundreds, 0)),
+        0 => product(own(0), first(RaisedWholes, i), first(Hundreds, 0)),
         _ => sum(
-            first(PositivePrices, i),
+            first(RaisedPrices, i),
             own(0),
-            cell(Bids, i, HUNDREDTHS_PLACE),
+            cell(Bids, i, Limits::HUNDREDTHS_PLACE),
         ),
     }
 }
@@ -87,7 +88,7 @@ pub fn margin_order(i: usize, turn: usize) -> NamedOrder
 {
     match turn {
         0 => less(own(0), first(Uses, i), first(Sizes, i)),
-        1 => difference(own(1), first(Tops, 0), first(PositivePrices, i)),
+        1 => difference(own(1), first(Tops, 0), first(RaisedPrices, i)),
         _ => product(first(Margins, i), own(0), own(1)),
     }
 }
@@ -99,19 +100,23 @@ pub fn price_order(p: usize, turn: usize) -> NamedOrder
 {
     match turn {
         0 => less(
-            cell(Prices, p, PRESENCE_RESULT),
+            cell(Prices, p, Limits::PRESENCE_RESULT),
             first(ZeroCells, 0),
             first(BestMargins, p),
         ),
         1 => difference(own(0), first(PoolWholes, p), first(Shifts, 0)),
-        2 => product(first(Prices, p), own(0), cell(Prices, p, PRESENCE_RESULT)),
+        2 => product(
+            first(Prices, p),
+            own(0),
+            cell(Prices, p, Limits::PRESENCE_RESULT),
+        ),
         3 => product(own(0), first(PoolWholes, p), first(Hundreds, 0)),
         4 => difference(own(1), first(Tops, 0), first(BestMargins, p)),
         5 => difference(own(1), own(1), own(0)),
         _ => product(
-            cell(Prices, p, HUNDREDTHS_RESULT),
+            cell(Prices, p, Limits::HUNDREDTHS_RESULT),
             own(1),
-            cell(Prices, p, PRESENCE_RESULT),
+            cell(Prices, p, Limits::PRESENCE_RESULT),
         ),
     }
 }

@@ -9,12 +9,11 @@ ghost use Rattle.orders.specs.Named.{named_of};
 ghost use Rattle.orders.specs.Shaped.{IsShape, InPhase, order_in};
 
 use crate::blocks::{
-    added, amount_order, cost_turn, cut_turn, greatest_turn, margin_order, positive_price_order,
-    price_order, reach_turn, rest_turn, size_order, subset_order, take_turn, test_order,
+    added, amount_order, cost_turn, cut_turn, greatest_turn, margin_order, price_order,
+    raised_price_order, reach_turn, rest_turn, size_order, subset_order, take_turn, test_order,
 };
 use crate::names::{
-    HUNDRED, NamedOrder, PRICE_PLACE, QUANTITY_PLACE, SHIFT, TOP, cell, difference, equal, first,
-    less, own, product, sum,
+    HUNDRED, NamedOrder, SHIFT, TOP, cell, difference, equal, first, less, own, product, sum,
 };
 use crate::sets::{lowest_pool, subset_count};
 use crate::shape::{NONE, ONE, Shape, Spot, many};
@@ -40,8 +39,8 @@ pub fn shape_of(counts: Counts, scratch: usize, k: usize) -> Shape
         4 => Shape::new(m, [ONE, NONE, NONE, NONE]), // pool numbers
         5 => Shape::new(n, [ONE, NONE, NONE, NONE]), // sides
         6 => Shape::new(n, [many(1, 3), NONE, NONE, NONE]), // sizes
-        7 => Shape::new(n, [ONE, NONE, NONE, NONE]), // whole prices
-        8 => Shape::new(n, [many(1, 2), NONE, NONE, NONE]), // positive prices
+        7 => Shape::new(n, [ONE, NONE, NONE, NONE]), // raised wholes
+        8 => Shape::new(n, [many(1, 2), NONE, NONE, NONE]), // raised prices
         9 => Shape::new(n, [ONE, NONE, NONE, NONE]), // doubles
         10 => Shape::new(n, [ONE, NONE, NONE, NONE]), // keys
         11 => Shape::new(n, [ONE, NONE, NONE, NONE]), // nexts
@@ -204,8 +203,8 @@ fn lines(counts: Counts, s: Spot) -> NamedOrder
     }
 }
 
-// An order of the greatest for a pool, in its row of a family, of the bids' numbers in another, by a family of tests: of the margins of its bids, and of
-// the whole parts of the bids that have its price.
+// An order of the greatest, for a pool, of numbers of the bids that pass a test: of the margins of its bids, and of the whole parts of the bids that have
+// its price. The greatest, the tests and the numbers each stand in a family.
 fn bid_greatest(
     counts: Counts,
     greatest: Family,
@@ -259,19 +258,19 @@ pub fn order_of(counts: Counts, k: usize, s: Spot) -> NamedOrder
         5 => less(
             first(Sides, i),
             first(ZeroCells, 0),
-            cell(Bids, i, QUANTITY_PLACE),
+            cell(Bids, i, Limits::QUANTITY_PLACE),
         ),
         6 => size_order(i, s.turn),
         7 => sum(
-            first(WholePrices, i),
-            cell(Bids, i, PRICE_PLACE),
+            first(RaisedWholes, i),
+            cell(Bids, i, Limits::PRICE_PLACE),
             first(Shifts, 0),
         ),
-        8 => positive_price_order(i, s.turn),
+        8 => raised_price_order(i, s.turn),
         9 => sum(
             first(Doubles, i),
-            first(PositivePrices, i),
-            first(PositivePrices, i),
+            first(RaisedPrices, i),
+            first(RaisedPrices, i),
         ),
         10 => sum(first(Keys, i), first(Doubles, i), first(Sides, i)),
         11 => sum(first(Nexts, i), first(Doubles, i), first(Units, 0)),
@@ -314,7 +313,7 @@ pub fn order_of(counts: Counts, k: usize, s: Spot) -> NamedOrder
             first(Margins, i),
             first(BestMargins, s.column),
         ),
-        31 => bid_greatest(counts, PoolWholes, PriceTests, WholePrices, s),
+        31 => bid_greatest(counts, PoolWholes, PriceTests, RaisedWholes, s),
         32 => price_order(i, s.turn),
         _ => NamedOrder::Constant(own(s.column), 0),
     }

@@ -1,4 +1,4 @@
--- Runs of the plan by computation, order by order: what they leave on the whole sheet of three small books (`example_run`, `prices_run`, `no_price_run`).
+-- Runs of the plan by computation, order by order: what they leave on the whole sheet of four small books (`example_run`, `prices_run`, `parted_run`, `no_price_run`).
 use Rattle.std.specs.Prelude.{◌≡◌, refl, List, [], ◌∷◌, replicate, ℕ, ◌-◌, pos, neg_ℤ}
 use Rattle.definitions.specs.Limits.{cell_count}
 use Rattle.definitions.specs.Arithmetic.{sum_to}
@@ -44,6 +44,22 @@ prices_run :
     ∷ 3 ∷ 3 ∷ 0 ∷ 0 ∷ 0 ∷ 3 ∷ 0 ∷ 0 ∷ 0 ∷ 0 ∷ 0 ∷ 0 ∷ 0 ∷ 30 ∷ 25 ∷ 1 ∷ 30 ∷ 25 ∷ 1 ∷ 2147483642 ∷ 75 ∷ 1 ∷ replicate (cell_count - first_scratch 4 3) 0
 unfolding full_line sum_to sealed_sheet run_of member lowest others scratch_count work table plan
 prices_run = refl
+
+-- two pools without lines: purchases at 25.99 and 26.00 share a sale at 0.00, and a sale at 30,000.00 stands alone. The dearer purchase is served in full,
+-- so that the price is the other's, 25.99
+parted : Book
+parted =
+    book 4 2
+    (pos 1 ∷ pos 0 ∷ neg_ℤ (pos 6) ∷ pos 0 ∷ pos 1 ∷ pos 25 ∷ pos 4 ∷ pos 99
+    ∷ pos 1 ∷ pos 26 ∷ pos 4 ∷ pos 0 ∷ pos 2 ∷ pos 30000 ∷ neg_ℤ (pos 1) ∷ pos 0 ∷ [])
+    (pos 0 ∷ pos 0 ∷ pos 0 ∷ pos 0 ∷ [])
+
+parted_run :
+    run_of (plan 4 2) (sealed_sheet parted)
+    ≡ 1 ∷ 0 ∷ 2147483641 ∷ 0 ∷ 1 ∷ 25 ∷ 4 ∷ 99 ∷ 1 ∷ 26 ∷ 4 ∷ 0 ∷ 2 ∷ 30000 ∷ 2147483646 ∷ 0 ∷ 0 ∷ 0 ∷ 0 ∷ 0
+    ∷ 6 ∷ 2 ∷ 4 ∷ 0 ∷ 0 ∷ 0 ∷ 0 ∷ 0 ∷ 25 ∷ 99 ∷ 1 ∷ 30000 ∷ 0 ∷ 1 ∷ replicate (cell_count - first_scratch 4 2) 0
+unfolding parted sum_to sealed_sheet run_of member lowest others scratch_count work table plan
+parted_run = refl
 
 -- one pool and a withdrawn bid at 5.40: no price, all three cells 0
 no_price_run : run_of (plan 1 1) (sealed_sheet (book 1 1 (pos 1 ∷ pos 5 ∷ pos 0 ∷ pos 40 ∷ []) (pos 0 ∷ []))) ≡ 1 ∷ 5 ∷ 0 ∷ 40 ∷ 0 ∷ replicate (cell_count - 5) 0

@@ -6,14 +6,14 @@ use Rattle.definitions.specs.Limits.{hundred}
 use Rattle.definitions.specs.Arithmetic.{on, residue}
 use Rattle.definitions.specs.Machine.{plus, times, same_as}
 use Rattle.definitions.specs.Book.{Book, pool, whole_price, quantity, hundredths, size}
-use Rattle.laws.specs.AcceptedBook.{pool_index, raised_whole, Sound}
+use Rattle.laws.specs.AcceptedBook.{pool_index, Sound}
 use Rattle.theory.proofs.ClosedBest.{key_small}
 use Rattle.plan.specs.Residues.{plus_small, times_small, times_on, positive_residue, size_residue, raise_residue}
 use Rattle.plan.specs.Loops.{loop, eqb_same}
 use Rattle.plan.proofs.Holds.{Phase, fill_column, fill_cells}
-use Rattle.plan.specs.Names.{Bids, ZeroCells, Units, Hundreds, Shifts, Tops, PoolNumbers, Sides, Sizes, WholePrices, PositivePrices, Doubles, Keys, Nexts, Memberships, PoolSizes, Temporaries}
-use Rattle.plan.proofs.Values.{cell_tables, positive_whole, positive_price, side}
-use Rattle.plan.specs.Blocks.{unit_block, hundred_block, shift_block, top_block, pool_number_block, side_block, size_block, whole_price_block, positive_price_block, double_block, key_block, next_block, membership_block, pool_size_block}
+use Rattle.plan.specs.Names.{Bids, ZeroCells, Units, Hundreds, Shifts, Tops, PoolNumbers, Sides, Sizes, RaisedWholes, RaisedPrices, Doubles, Keys, Nexts, Memberships, PoolSizes, Temporaries}
+use Rattle.plan.proofs.Values.{cell_tables, raised_whole, raised_price, side}
+use Rattle.plan.specs.Blocks.{unit_block, hundred_block, shift_block, top_block, pool_number_block, side_block, size_block, raised_whole_block, raised_price_block, double_block, key_block, next_block, membership_block, pool_size_block}
 
 module _ (B : Book) (sound : Sound B) where
   pub unit_phase : Phase (cell_tables B) [] Units [] (loop 1 unit_block)
@@ -39,32 +39,32 @@ module _ (B : Book) (sound : Sound B) where
   size_phase = fill_column (cell_tables B) (Bids ∷ Sides ∷ []) Sizes (Temporaries ∷ []) refl refl refl size_block (λ i. rw (eqb_same i))
       (λ i t l h. rw (eqb_same i, h Bids refl i 2 l (lit< tt), h Sides refl i 0 l (lit< tt)) (size_residue (quantity B i) (omega (arith, sound.size_small i l))))
 
-  pub whole_price_phase : Phase (cell_tables B) (Bids ∷ Shifts ∷ []) WholePrices [] (loop B.n whole_price_block)
-  whole_price_phase = fill_column (cell_tables B) (Bids ∷ Shifts ∷ []) WholePrices [] refl refl refl whole_price_block (λ i. rw (eqb_same i))
+  pub raised_whole_phase : Phase (cell_tables B) (Bids ∷ Shifts ∷ []) RaisedWholes [] (loop B.n raised_whole_block)
+  raised_whole_phase = fill_column (cell_tables B) (Bids ∷ Shifts ∷ []) RaisedWholes [] refl refl refl raised_whole_block (λ i. rw (eqb_same i))
       (λ i t l h. rw (eqb_same i, h Bids refl i 1 l (lit< tt), h Shifts refl 0 0 (lit< tt) (lit< tt)) (raise_residue (whole_price B i) (raised_whole B i) (sound.whole_is i l) (sound.whole_small i l)))
 
   -- 100 times the whole part and the hundredths
-  in_hundredths_lem : (i : ℕ) → i < B.n → plus (times (positive_whole B i) hundred) (residue (hundredths B i)) ≡ positive_price B i
+  in_hundredths_lem : (i : ℕ) → i < B.n → plus (times (raised_whole B i) hundred) (residue (hundredths B i)) ≡ raised_price B i
   in_hundredths_lem i l =
-      rw (sound.hundredths_is i l) (omega (arith, times_small (positive_whole B i) hundred (omega (arith, sound.whole_small i l)), sound.whole_small i l, sound.hundredths_small i l))
+      rw (sound.hundredths_is i l) (omega (arith, times_small (raised_whole B i) hundred (omega (arith, sound.whole_small i l)), sound.whole_small i l, sound.hundredths_small i l))
 
-  pub positive_price_phase : Phase (cell_tables B) (Bids ∷ Hundreds ∷ WholePrices ∷ []) PositivePrices (Temporaries ∷ []) (loop B.n positive_price_block)
-  positive_price_phase = fill_column (cell_tables B) (Bids ∷ Hundreds ∷ WholePrices ∷ []) PositivePrices (Temporaries ∷ []) refl refl refl positive_price_block (λ i. rw (eqb_same i))
-      (λ i t l h. rw (eqb_same i, h WholePrices refl i 0 l (lit< tt), h Hundreds refl 0 0 (lit< tt) (lit< tt), h Bids refl i 3 l (lit< tt)) (in_hundredths_lem i l))
+  pub raised_price_phase : Phase (cell_tables B) (Bids ∷ Hundreds ∷ RaisedWholes ∷ []) RaisedPrices (Temporaries ∷ []) (loop B.n raised_price_block)
+  raised_price_phase = fill_column (cell_tables B) (Bids ∷ Hundreds ∷ RaisedWholes ∷ []) RaisedPrices (Temporaries ∷ []) refl refl refl raised_price_block (λ i. rw (eqb_same i))
+      (λ i t l h. rw (eqb_same i, h RaisedWholes refl i 0 l (lit< tt), h Hundreds refl 0 0 (lit< tt) (lit< tt), h Bids refl i 3 l (lit< tt)) (in_hundredths_lem i l))
 
-  pub double_phase : Phase (cell_tables B) (PositivePrices ∷ []) Doubles [] (loop B.n double_block)
-  double_phase = fill_column (cell_tables B) (PositivePrices ∷ []) Doubles [] refl refl refl double_block (λ i. rw (eqb_same i))
-      (λ i t l h. rw (eqb_same i, h PositivePrices refl i 0 l (lit< tt)) (omega (arith, sound.price_small i l)))
+  pub double_phase : Phase (cell_tables B) (RaisedPrices ∷ []) Doubles [] (loop B.n double_block)
+  double_phase = fill_column (cell_tables B) (RaisedPrices ∷ []) Doubles [] refl refl refl double_block (λ i. rw (eqb_same i))
+      (λ i t l h. rw (eqb_same i, h RaisedPrices refl i 0 l (lit< tt)) (omega (arith, sound.price_small i l)))
 
   pub key_phase : Phase (cell_tables B) (Doubles ∷ Sides ∷ []) Keys [] (loop B.n key_block)
   key_phase = fill_column (cell_tables B) (Doubles ∷ Sides ∷ []) Keys [] refl refl refl key_block (λ i. rw (eqb_same i))
       (λ i t l h. rw (eqb_same i, h Doubles refl i 0 l (lit< tt), h Sides refl i 0 l (lit< tt))
-      (plus_small (2 * positive_price B i) (side B i) (omega (arith, key_small B sound i l))))
+      (plus_small (2 * raised_price B i) (side B i) (omega (arith, key_small B sound i l))))
 
   pub next_phase : Phase (cell_tables B) (Doubles ∷ Units ∷ []) Nexts [] (loop B.n next_block)
   next_phase = fill_column (cell_tables B) (Doubles ∷ Units ∷ []) Nexts [] refl refl refl next_block (λ i. rw (eqb_same i))
       (λ i t l h. rw (eqb_same i, h Doubles refl i 0 l (lit< tt), h Units refl 0 0 (lit< tt) (lit< tt))
-      (plus_small (2 * positive_price B i) 1 (omega (arith, sound.price_small i l))))
+      (plus_small (2 * raised_price B i) 1 (omega (arith, sound.price_small i l))))
 
   membership_test : (i p : ℕ) → i < B.n → same_as (residue (pool B i)) (suc p) ≡ on (eqb (pool_index B i) p) 1
   membership_test i p l = ap (λ (z : ℤ). same_as (residue z) (suc p)) (sound.pool_is i l) ∙ ap (λ (t : Bool). on t 1) (eqb-suc-suc (pool_index B i) p)

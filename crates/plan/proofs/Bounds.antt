@@ -12,7 +12,7 @@ use Rattle.laws.specs.AcceptedBook.{pool_index, Sound}
 use Rattle.theory.specs.ClosedBest.{size_total}
 use Rattle.theory.proofs.ClosedBest.{demand_small, size_before_small, cut_small, used_size}
 use Rattle.plan.specs.Subsets.{member}
-use Rattle.plan.proofs.Values.{pool_size, demand, cut, size_with, rank, used_amount, price_margin, reached, margin, pool_margin, best_margin, positive_whole, has_price, pool_whole}
+use Rattle.plan.proofs.Values.{pool_size, demand, cut, size_with, rank, used_amount, price_margin, reached, margin, pool_margin, best_margin, raised_whole, has_price, pool_whole}
 
 -- a sum of at most so many terms
 pub sum_limit_lem : (k K : ℕ) (f : ℕ → ℕ) (b : ℕ) → k ≤ K → ((i : ℕ) → i < k → f i ≤ b) → sum_to k f ≤ K * b
@@ -64,7 +64,7 @@ module _ (B : Book) where
   unfolding best_margin
   best_margin_small p = greatest_small B.m (λ q. reached B q p) (pool_margin B) pool_margin_small
 
-  pub pool_whole_small : Sound B → (p : ℕ) → pool_whole B p ≤ 2 * whole_limit + 1
+  pub pool_whole_small : Sound B → (p : ℕ) → pool_whole B p ≤ 2 * whole_limit
   unfolding pool_whole
   pool_whole_small sound p =
-      max_below B.n (λ i. on (has_price B i p) (positive_whole B i)) (2 * whole_limit + 1) (λ i l. omega (arith, on_le (has_price B i p) (positive_whole B i), sound.whole_small i l))
+      max_below B.n (λ i. on (has_price B i p) (raised_whole B i)) (2 * whole_limit) (λ i l. omega (arith, on_le (has_price B i p) (raised_whole B i), sound.whole_small i l))

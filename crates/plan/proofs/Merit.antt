@@ -4,14 +4,14 @@ use Rattle.std.proofs.Common.{sym, arith}
 use Rattle.definitions.specs.Book.{Book}
 use Rattle.definitions.specs.Clearing.{before}
 use Rattle.laws.specs.Tests.{Lt?, less, more, lt?}
-use Rattle.laws.specs.AcceptedBook.{Sound}
-use Rattle.theory.specs.ClosedForms.{positive_price, key}
+use Rattle.laws.specs.AcceptedBook.{Sound, raised_price}
+use Rattle.theory.specs.ClosedForms.{key}
 use Rattle.theory.proofs.ClosedBest.{before_low, before_high, before_self}
 
 -- the comparison that the plan makes; the tests say j < i and i < j
 abbrev pub key_test : Bool → Bool → (B : Book) (j i : ℕ) → Bool
-key_test true y B j i = ltb (key B j) (2 * positive_price B i + 1)
-key_test false true B j i = ltb (2 * positive_price B j) (key B i)
+key_test true y B j i = ltb (key B j) (2 * raised_price B i + 1)
+key_test false true B j i = ltb (2 * raised_price B j) (key B i)
 key_test false false B j i = false
 
 pub test_is_before : (B : Book) → Sound B → (j i : ℕ) → j < B.n → i < B.n → key_test (ltb j i) (ltb i j) B j i ≡ before B j i

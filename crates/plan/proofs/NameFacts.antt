@@ -2,7 +2,7 @@
 use Rattle.std.specs.Prelude.{◌≡◌, refl, true, eqb}
 use Rattle.std.proofs.Common.{sym, ap, ◌∙◌, eqb-true}
 use Rattle.plan.specs.declared.Family.{Family}
-use Rattle.plan.specs.declared.Family.TheVariants.{Bids, Capacities, Amounts, Flows, Prices, Temporaries, ZeroCells, Units, Hundreds, Shifts, Tops, PoolNumbers, Sides, Sizes, WholePrices, PositivePrices, Doubles, Keys, Nexts, Memberships, PoolSizes, Demands, Subsets, Cuts, SizesBefore, RanksBefore, SizesWith, RanksWith, Uses, Placements, Slacks, SlackTests, ReachTests, Margins, PoolMargins, BestMargins, PriceTests, PoolWholes}
+use Rattle.plan.specs.declared.Family.TheVariants.{Bids, Capacities, Amounts, Flows, Prices, Temporaries, ZeroCells, Units, Hundreds, Shifts, Tops, PoolNumbers, Sides, Sizes, RaisedWholes, RaisedPrices, Doubles, Keys, Nexts, Memberships, PoolSizes, Demands, Subsets, Cuts, SizesBefore, RanksBefore, SizesWith, RanksWith, Uses, Placements, Slacks, SlackTests, ReachTests, Margins, PoolMargins, BestMargins, PriceTests, PoolWholes}
 use Rattle.plan.specs.Names.{number, family_at}
 
 pub at_number : (f : Family) → family_at (number f) ≡ f
@@ -20,8 +20,8 @@ at_number Tops = refl
 at_number PoolNumbers = refl
 at_number Sides = refl
 at_number Sizes = refl
-at_number WholePrices = refl
-at_number PositivePrices = refl
+at_number RaisedWholes = refl
+at_number RaisedPrices = refl
 at_number Doubles = refl
 at_number Keys = refl
 at_number Nexts = refl

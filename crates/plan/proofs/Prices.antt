@@ -14,9 +14,9 @@ use Rattle.plan.specs.Orders.{run, State}
 use Rattle.plan.specs.Residues.{minus_small, times_small, times_on, on_times, less_small, max_small}
 use Rattle.plan.specs.Loops.{loop, writes, writes_append, writes_loop, eqb_same}
 use Rattle.plan.proofs.Holds.{Holds, Phase, apart, holds_keep, touches, touches_family, fill_column, fill_rows, fill_cells}
-use Rattle.plan.specs.Names.{Family, number, Name, at, ZeroCells, Hundreds, Shifts, Tops, Sizes, WholePrices, PositivePrices, Memberships, Uses, ReachTests, Margins, PoolMargins, BestMargins, PriceTests, PoolWholes, Prices, Temporaries, ZeroCell, Shift, WholePrice, Membership, ReachTest, Margin, PoolMargin, BestMargin, PriceTest, PoolWhole, rows_of, columns_of}
+use Rattle.plan.specs.Names.{Family, number, Name, at, ZeroCells, Hundreds, Shifts, Tops, Sizes, RaisedWholes, RaisedPrices, Memberships, Uses, ReachTests, Margins, PoolMargins, BestMargins, PriceTests, PoolWholes, Prices, Temporaries, ZeroCell, Shift, RaisedWhole, Membership, ReachTest, Margin, PoolMargin, BestMargin, PriceTest, PoolWhole, rows_of, columns_of}
 use Rattle.plan.specs.Running.{Raises, raise}
-use Rattle.plan.proofs.Values.{cell_tables, top, positive_whole, positive_price, used_amount, reached, price_margin, margin, pool_margin, best_margin, has_price, pool_whole, price_cells}
+use Rattle.plan.proofs.Values.{cell_tables, top, raised_whole, raised_price, used_amount, reached, price_margin, margin, pool_margin, best_margin, has_price, pool_whole, price_cells}
 use Rattle.plan.specs.Blocks.{Block, margin_block, greatest_start, greatest_turn, price_test_block, price_block}
 use Rattle.plan.specs.Table.{greatest_block}
 use Rattle.plan.proofs.Bounds.{used_small, margin_small, pool_margin_small, best_margin_small, pool_whole_small}
@@ -68,16 +68,16 @@ module _ (B : Book) (u : Family) (reads : List Family) (clear : apart (u ∷ Tem
       (λ p t r h. greatest_value p t (rw rows at r) h)
 
 module _ (B : Book) (sound : Sound B) where
-  pub margin_phase : Phase (cell_tables B) (Uses ∷ Sizes ∷ PositivePrices ∷ Tops ∷ []) Margins (Temporaries ∷ []) (loop B.n margin_block)
+  pub margin_phase : Phase (cell_tables B) (Uses ∷ Sizes ∷ RaisedPrices ∷ Tops ∷ []) Margins (Temporaries ∷ []) (loop B.n margin_block)
   unfolding margin
-  margin_phase = fill_column (cell_tables B) (Uses ∷ Sizes ∷ PositivePrices ∷ Tops ∷ []) Margins (Temporaries ∷ []) refl refl refl margin_block (λ i. rw (eqb_same i))
+  margin_phase = fill_column (cell_tables B) (Uses ∷ Sizes ∷ RaisedPrices ∷ Tops ∷ []) Margins (Temporaries ∷ []) refl refl refl margin_block (λ i. rw (eqb_same i))
       (λ i t l h. rw (
         eqb_same i,
         h Uses refl i 0 l (lit< tt),
         h Sizes refl i 0 l (lit< tt),
         h Tops refl 0 0 (lit< tt) (lit< tt),
-        h PositivePrices refl i 0 l (lit< tt),
-        minus_small top (positive_price B i) (omega arith) (omega (arith, sound.price_small i l)),
+        h RaisedPrices refl i 0 l (lit< tt),
+        minus_small top (raised_price B i) (omega arith) (omega (arith, sound.price_small i l)),
         less_small (used_amount B i) (size B i) (omega (arith, used_small B sound i l)) (omega (arith, sound.size_small i l)),
       )
       (times_on (ltb (used_amount B i) (size B i)) (price_margin B i) (omega arith)))
@@ -98,11 +98,11 @@ module _ (B : Book) (sound : Sound B) where
   price_test_phase = fill_cells (cell_tables B) (Margins ∷ BestMargins ∷ []) PriceTests [] refl refl price_test_block (λ i p. rw (eqb_same i, eqb_same p))
       (λ i p t l b h. rw (eqb_same i, eqb_same p, h Margins refl i 0 l (lit< tt), h BestMargins refl p 0 b (lit< tt)))
 
-  pub pool_whole_phase_lem : Phase (cell_tables B) (WholePrices ∷ PriceTests ∷ []) PoolWholes (Temporaries ∷ []) (loop B.m (greatest_block B.n B.m B.n PoolWhole (λ p i. PriceTest i p) WholePrice))
+  pub pool_whole_phase_lem : Phase (cell_tables B) (RaisedWholes ∷ PriceTests ∷ []) PoolWholes (Temporaries ∷ []) (loop B.m (greatest_block B.n B.m B.n PoolWhole (λ p i. PriceTest i p) RaisedWhole))
   unfolding pool_whole
   pool_whole_phase_lem =
-      greatest_fills B PoolWholes (WholePrices ∷ PriceTests ∷ []) refl refl refl refl B.n (λ p i. PriceTest i p) WholePrice (λ p i. has_price B i p) (positive_whole B)
-      (λ i l. omega (arith, sound.whole_small i l)) (λ p i t r l h. h PriceTests refl i p l r) (λ i t l h. h WholePrices refl i 0 l (lit< tt)) (λ p. refl)
+      greatest_fills B PoolWholes (RaisedWholes ∷ PriceTests ∷ []) refl refl refl refl B.n (λ p i. PriceTest i p) RaisedWhole (λ p i. has_price B i p) (raised_whole B)
+      (λ i l. omega (arith, sound.whole_small i l)) (λ p i t r l h. h PriceTests refl i p l r) (λ i t l h. h RaisedWholes refl i 0 l (lit< tt)) (λ p. refl)
 
   -- what the prices read
   abbrev HoldsPrices : State → Type 0
@@ -111,15 +111,15 @@ module _ (B : Book) (sound : Sound B) where
   price_value : (p j : ℕ) (t : State) → p < B.m → j < pool_results → HoldsPrices t → run (price_block p) t (at Prices p j) ≡ price_cells B p j
   price_value p j t b c h =
       let zero_cell : t ZeroCell ≡ 0 = h ZeroCells refl 0 0 (lit< tt) (lit< tt) in
-      let shift : t Shift ≡ suc whole_limit = h Shifts refl 0 0 (lit< tt) (lit< tt) in
+      let shift : t Shift ≡ whole_limit = h Shifts refl 0 0 (lit< tt) (lit< tt) in
       let margin : t (BestMargin p) ≡ best_margin B p = h BestMargins refl p 0 b (lit< tt) in
       let whole : t (PoolWhole p) ≡ pool_whole B p = h PoolWholes refl p 0 b (lit< tt) in
       let present : less_than 0 (best_margin B p) ≡ on (ltb 0 (best_margin B p)) 1 = less_small 0 (best_margin B p) (lit≤ tt) (omega (arith, best_margin_small B p)) in
       go j c zero_cell shift margin whole present
     where
-      go : (j : ℕ) → j < pool_results → t ZeroCell ≡ 0 → t Shift ≡ suc whole_limit → t (BestMargin p) ≡ best_margin B p → t (PoolWhole p) ≡ pool_whole B p
+      go : (j : ℕ) → j < pool_results → t ZeroCell ≡ 0 → t Shift ≡ whole_limit → t (BestMargin p) ≡ best_margin B p → t (PoolWhole p) ≡ pool_whole B p
           → less_than 0 (best_margin B p) ≡ on (ltb 0 (best_margin B p)) 1 → run (price_block p) t (at Prices p j) ≡ price_cells B p j
-      go zero c z s m w e = rw (eqb_same p, z, s, m, w, e) (on_times (ltb 0 (best_margin B p)) (minus (pool_whole B p) (suc whole_limit)) (omega arith))
+      go zero c z s m w e = rw (eqb_same p, z, s, m, w, e) (on_times (ltb 0 (best_margin B p)) (minus (pool_whole B p) whole_limit) (omega arith))
       go (suc zero) c z s m w e =
           rw (eqb_same p, z, m, w, e, h Tops refl 0 0 (lit< tt) (lit< tt), h Hundreds refl 0 0 (lit< tt) (lit< tt))
           (rw (let q : times (pool_whole B p) hundred ≡ hundred * pool_whole B p = omega (arith, times_small (pool_whole B p) hundred (omega (arith, pool_whole_small B sound p))) in q)

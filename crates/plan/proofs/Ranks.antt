@@ -20,7 +20,7 @@ use Rattle.plan.specs.Names.{Family, number, Name, at, same, ZeroCells, Sides, S
 use Rattle.plan.specs.Subsets.{member, complement, subset_sum, subset_outside}
 use Rattle.plan.specs.Running.{Lowers, lower}
 use Rattle.plan.proofs.RunningFacts.{subset_sums}
-use Rattle.plan.proofs.Values.{cell_tables, positive_price, key, pool_size, cut, size_before, size_with, rank, used_amount, accepted_amount}
+use Rattle.plan.proofs.Values.{cell_tables, raised_price, key, pool_size, cut, size_before, size_with, rank, used_amount, accepted_amount}
 use Rattle.plan.specs.Blocks.{Block, test_at, test_order, gain_turn, size_before_start, cost_turn, size_with_block, use_block, amount_block}
 use Rattle.plan.specs.Table.{size_before_turn, size_before_block, subset_blocks, cost_block, rank_block}
 use Rattle.plan.proofs.Merit.{key_test, test_is_before}
@@ -59,10 +59,10 @@ module _ (B : Book) (sound : Sound B) where
       go : (x y : Bool) → run (test_at x y i j ∷ []) t (Temporary 0) ≡ on (key_test x y B j i) 1
       go true y =
           rw (h Keys refl j 0 b (lit< tt), h Nexts refl i 0 a (lit< tt))
-          (less_small (key B j) (2 * positive_price B i + 1) (omega (arith, key_small B sound j b)) (omega (arith, sound.price_small i a)))
+          (less_small (key B j) (2 * raised_price B i + 1) (omega (arith, key_small B sound j b)) (omega (arith, sound.price_small i a)))
       go false true =
           rw (h Doubles refl j 0 b (lit< tt), h Keys refl i 0 a (lit< tt))
-          (less_small (2 * positive_price B j) (key B i) (omega (arith, sound.price_small j b)) (omega (arith, key_small B sound i a)))
+          (less_small (2 * raised_price B j) (key B i) (omega (arith, sound.price_small j b)) (omega (arith, key_small B sound i a)))
       go false false = rw (h ZeroCells refl 0 0 (lit< tt) (lit< tt))
 
   turn_writes : (W : Name → Bool) (i j : ℕ) → W (Temporary 0) ≡ true → W (Temporary 1) ≡ true → ((p : ℕ) → W (SizeBefore i p) ≡ true) → writes W (size_before_turn B.n B.m i j) ≡ true

@@ -3,10 +3,11 @@ use Rattle.std.specs.Prelude.{ℕ, zero, suc, ◌+◌, ◌*◌, ◌/◌, ◌%◌
 use Rattle.definitions.specs.Limits.{whole_limit, hundred}
 use Rattle.definitions.specs.Arithmetic.{on, residue}
 use Rattle.definitions.specs.Book.{Book, pool, whole_price, quantity, hundredths, size, capacity}
+pub use Rattle.laws.specs.AcceptedBook.{raised_whole, raised_price}
 use Rattle.laws.specs.AcceptedBook.{pool_index}
 use Rattle.plan.proofs.Holds.{Tables}
-use Rattle.plan.specs.Names.{Family, Bids, Capacities, Amounts, Flows, Prices, Temporaries, ZeroCells, Units, Hundreds, Shifts, Tops, PoolNumbers, Sides, Sizes, WholePrices, PositivePrices, Doubles, Keys, Nexts, Memberships, PoolSizes, Demands, Subsets, Cuts, SizesBefore, RanksBefore, SizesWith, RanksWith, Uses, Placements, Slacks, SlackTests, ReachTests, Margins, PoolMargins, BestMargins, PriceTests, PoolWholes, rows_of, columns_of}
-pub use Rattle.theory.specs.ClosedForms.{top, positive_whole, positive_price, side, key, pool_size, taken_of, line_flow, unparted, price_margin, has_price, closed_price, closed_hundredths, closed_presence}
+use Rattle.plan.specs.Names.{Family, Bids, Capacities, Amounts, Flows, Prices, Temporaries, ZeroCells, Units, Hundreds, Shifts, Tops, PoolNumbers, Sides, Sizes, RaisedWholes, RaisedPrices, Doubles, Keys, Nexts, Memberships, PoolSizes, Demands, Subsets, Cuts, SizesBefore, RanksBefore, SizesWith, RanksWith, Uses, Placements, Slacks, SlackTests, ReachTests, Margins, PoolMargins, BestMargins, PriceTests, PoolWholes, rows_of, columns_of}
+pub use Rattle.theory.specs.ClosedForms.{top, side, key, pool_size, taken_of, line_flow, unparted, price_margin, has_price, closed_price, closed_hundredths, closed_presence}
 unfoldable pub use Rattle.theory.specs.ClosedForms.{demand, cut, size_before, size_with, rank, used_amount, accepted_amount, placement, slack, rest_of, flow_of, slack_after, reached, margin, pool_margin, best_margin, pool_whole}
 
 module _ (B : Book) where
@@ -34,16 +35,16 @@ module _ (B : Book) where
   value_of ZeroCells i j = 0
   value_of Units i j = 1
   value_of Hundreds i j = hundred
-  value_of Shifts i j = suc whole_limit
+  value_of Shifts i j = whole_limit
   value_of Tops i j = top
   value_of PoolNumbers p j = suc p
   value_of Sides i j = side B i
   value_of Sizes i j = size B i
-  value_of WholePrices i j = positive_whole B i
-  value_of PositivePrices i j = positive_price B i
-  value_of Doubles i j = 2 * positive_price B i
+  value_of RaisedWholes i j = raised_whole B i
+  value_of RaisedPrices i j = raised_price B i
+  value_of Doubles i j = 2 * raised_price B i
   value_of Keys i j = key B i
-  value_of Nexts i j = 2 * positive_price B i + 1
+  value_of Nexts i j = 2 * raised_price B i + 1
   value_of Memberships i p = on (eqb (pool_index B i) p) 1
   value_of PoolSizes i p = pool_size B i p
   value_of Demands p j = demand B p

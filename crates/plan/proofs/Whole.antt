@@ -7,7 +7,7 @@ use Rattle.plan.specs.Orders.{State, run}
 use Rattle.plan.proofs.Holds.{Holds, Step, then, phase_step, step_part}
 use Rattle.plan.specs.Names.{Family, Bids, Capacities, Amounts, Flows, Prices, ZeroCells}
 use Rattle.plan.proofs.Values.{cell_tables}
-use Rattle.plan.proofs.Bids.{unit_phase, hundred_phase, shift_phase, top_phase, pool_number_phase, side_phase, size_phase, whole_price_phase, positive_price_phase, double_phase, key_phase, next_phase, membership_phase, pool_size_phase}
+use Rattle.plan.proofs.Bids.{unit_phase, hundred_phase, shift_phase, top_phase, pool_number_phase, side_phase, size_phase, raised_whole_phase, raised_price_phase, double_phase, key_phase, next_phase, membership_phase, pool_size_phase}
 use Rattle.plan.proofs.Cuts.{demand_phase_lem, cut_phase_lem}
 use Rattle.plan.proofs.Ranks.{size_before_phase_lem, rank_before_phase, size_with_phase, rank_with_phase, use_phase, amount_phase}
 use Rattle.plan.proofs.Lines.{placement_phase_lem, slack_phase_lem, flow_phase}
@@ -36,8 +36,8 @@ module _ (B : Book) (sound : Sound B) where
       (then (cell_tables B) (phase_step (cell_tables B) _ (pool_number_phase B sound) refl)
       (then (cell_tables B) (phase_step (cell_tables B) _ (side_phase B sound) refl)
       (then (cell_tables B) (phase_step (cell_tables B) _ (size_phase B sound) refl)
-      (then (cell_tables B) (phase_step (cell_tables B) _ (whole_price_phase B sound) refl)
-      (then (cell_tables B) (phase_step (cell_tables B) _ (positive_price_phase B sound) refl)
+      (then (cell_tables B) (phase_step (cell_tables B) _ (raised_whole_phase B sound) refl)
+      (then (cell_tables B) (phase_step (cell_tables B) _ (raised_price_phase B sound) refl)
       (then (cell_tables B) (phase_step (cell_tables B) _ (double_phase B sound) refl)
       (then (cell_tables B) (phase_step (cell_tables B) _ (key_phase B sound) refl)
       (then (cell_tables B) (phase_step (cell_tables B) _ (next_phase B sound) refl)

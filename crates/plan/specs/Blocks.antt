@@ -1,9 +1,8 @@
 -- The plan's smallest blocks of orders, each from the numbers of its bids, pools and sets only; the table puts them together.
-use Rattle.std.specs.Prelude.{Bool, true, false, cond, List, [], ◌∷◌, ℕ, suc, ltb}
-use Rattle.definitions.specs.Limits.{whole_limit, hundred, greatest_positive}
+use Rattle.std.specs.Prelude.{Bool, true, false, cond, List, [], ◌∷◌, ℕ, suc, ◌+◌, ◌*◌, ltb}
+use Rattle.definitions.specs.Limits.{whole_limit, hundred, price_limit, greatest_positive}
 use Rattle.plan.specs.Orders.{OrderOn, constant, sum, difference, product, less, equal}
-use Rattle.plan.specs.Names.{Name, at, Units, Hundreds, Shifts, Tops, Pool, Price, Quantity, Hundredths, Capacity, Amount, Flow, PriceOfPool, HundredthsOfPool, Presence, Temporary, ZeroCell, One, Hundred, Shift, Top, PoolNumber, Side, Size, WholePrice, PositivePrice, Double, Key, Next, Membership, PoolSize, Demand, Subset, Cut, SizeBefore, RankBefore, SizeWith, RankWith, Used, Placement, Slack, SlackTest, ReachTest, Margin, BestMargin, PriceTest, PoolWhole}
-use Rattle.theory.specs.ClosedForms.{top}
+use Rattle.plan.specs.Names.{Name, at, Units, Hundreds, Shifts, Tops, Pool, WholePrice, Quantity, Hundredths, Capacity, Amount, Flow, PriceOfPool, HundredthsOfPool, Presence, Temporary, ZeroCell, One, Hundred, Shift, Top, PoolNumber, Side, Size, RaisedWhole, RaisedPrice, Double, Key, Next, Membership, PoolSize, Demand, Subset, Cut, SizeBefore, RankBefore, SizeWith, RankWith, Used, Placement, Slack, SlackTest, ReachTest, Margin, BestMargin, PriceTest, PoolWhole}
 use Rattle.plan.specs.Subsets.{leaves, complement}
 use Rattle.plan.specs.Running.{lowered, raised}
 
@@ -21,13 +20,13 @@ unit_block i = constant (at Units i 0) 1 ∷ []
 abbrev pub hundred_block : ℕ → Block
 hundred_block i = constant (at Hundreds i 0) hundred ∷ []
 
--- the limit of the whole parts of prices and 1
+-- the limit of the whole parts of prices
 abbrev pub shift_block : ℕ → Block
-shift_block i = constant (at Shifts i 0) (suc whole_limit) ∷ []
+shift_block i = constant (at Shifts i 0) whole_limit ∷ []
 
--- what a positive price and its margin add up to
+-- what a raised price and its margin add up to
 abbrev pub top_block : ℕ → Block
-top_block i = constant (at Tops i 0) top ∷ []
+top_block i = constant (at Tops i 0) (2 * price_limit + 1) ∷ []
 
 -- the number of pool p in a book
 abbrev pub pool_number_block : ℕ → Block
@@ -47,17 +46,17 @@ size_block i =
     ∷ difference (Size i) (Temporary 0) (Temporary 1)
     ∷ []
 
--- the whole part of the price of bid i made positive
-abbrev pub whole_price_block : ℕ → Block
-whole_price_block i = sum (WholePrice i) (Price i) Shift ∷ []
+-- the whole part of the price of bid i, raised so that it is not negative
+abbrev pub raised_whole_block : ℕ → Block
+raised_whole_block i = sum (RaisedWhole i) (WholePrice i) Shift ∷ []
 
--- its price in hundredths made positive
-abbrev pub positive_price_block : ℕ → Block
-positive_price_block i = product (Temporary 0) (WholePrice i) Hundred ∷ sum (PositivePrice i) (Temporary 0) (Hundredths i) ∷ []
+-- and with it its price in hundredths
+abbrev pub raised_price_block : ℕ → Block
+raised_price_block i = product (Temporary 0) (RaisedWhole i) Hundred ∷ sum (RaisedPrice i) (Temporary 0) (Hundredths i) ∷ []
 
--- twice the positive price
+-- twice the raised price
 abbrev pub double_block : ℕ → Block
-double_block i = sum (Double i) (PositivePrice i) (PositivePrice i) ∷ []
+double_block i = sum (Double i) (RaisedPrice i) (RaisedPrice i) ∷ []
 
 -- the doubled price and the side
 abbrev pub key_block : ℕ → Block
@@ -208,7 +207,7 @@ take_turn l a b S = difference (Slack S) (Slack S) (taken_cell (leaves S a b) (l
 abbrev pub margin_block : ℕ → Block
 margin_block i =
     less (Temporary 0) (Used i) (Size i)
-    ∷ difference (Temporary 1) Top (PositivePrice i)
+    ∷ difference (Temporary 1) Top (RaisedPrice i)
     ∷ product (Margin i) (Temporary 0) (Temporary 1)
     ∷ []
 
@@ -220,11 +219,12 @@ greatest_start d = constant d 0 ∷ []
 abbrev pub greatest_turn : (d test number : Name) → Block
 greatest_turn d test number = product (Temporary 2) test number ∷ raised d (Temporary 2)
 
--- has bid i the best margin of pool p?
+-- has bid i the best margin of pool p, and so its price if the pool has one?
 abbrev pub price_test_block : (i p : ℕ) → Block
 price_test_block i p = equal (PriceTest i p) (Margin i) (BestMargin p) ∷ []
 
--- has any pool that reaches pool p a margin? The whole part of its price, and the hundredths: what the price has above 100 times that
+-- has any pool that reaches pool p a margin? The whole part of its price, and the hundredths: what the price has above 100 times that. Without a margin
+-- the bids that are used up pass the test of the price; the presence takes away what comes of them.
 abbrev pub price_block : ℕ → Block
 price_block p =
     less (Presence p) ZeroCell (BestMargin p)

@@ -4,7 +4,7 @@ use Rattle.std.specs.Prelude.{ℕ, ◌*◌, ◌^◌, Bool, ◌&&◌, List, [], �
 use Rattle.definitions.specs.Limits.{bid_numbers, price_place, quantity_place, hundredths_place, pool_results, hundredths_result, presence_result}
 use Rattle.plan.specs.declared.Place.{Place}
 pub use Rattle.plan.specs.declared.Family.{Family}
-pub use Rattle.plan.specs.declared.Family.TheVariants.{Bids, Capacities, Amounts, Flows, Prices, Temporaries, ZeroCells, Units, Hundreds, Shifts, Tops, PoolNumbers, Sides, Sizes, WholePrices, PositivePrices, Doubles, Keys, Nexts, Memberships, PoolSizes, Demands, Subsets, Cuts, SizesBefore, RanksBefore, SizesWith, RanksWith, Uses, Placements, Slacks, SlackTests, ReachTests, Margins, PoolMargins, BestMargins, PriceTests, PoolWholes}
+pub use Rattle.plan.specs.declared.Family.TheVariants.{Bids, Capacities, Amounts, Flows, Prices, Temporaries, ZeroCells, Units, Hundreds, Shifts, Tops, PoolNumbers, Sides, Sizes, RaisedWholes, RaisedPrices, Doubles, Keys, Nexts, Memberships, PoolSizes, Demands, Subsets, Cuts, SizesBefore, RanksBefore, SizesWith, RanksWith, Uses, Placements, Slacks, SlackTests, ReachTests, Margins, PoolMargins, BestMargins, PriceTests, PoolWholes}
 
 -- the place of each family on the sheet, for n bids, m pools, and so many lines and sets of pools: its number, its rows and its columns
 abbrev pub family_place : (n m lines sets : ℕ) → Family → Place
@@ -22,8 +22,8 @@ family_place n m lines sets Tops = (10, 1, 1)
 family_place n m lines sets PoolNumbers = (11, m, 1)
 family_place n m lines sets Sides = (12, n, 1)
 family_place n m lines sets Sizes = (13, n, 1)
-family_place n m lines sets WholePrices = (14, n, 1)
-family_place n m lines sets PositivePrices = (15, n, 1)
+family_place n m lines sets RaisedWholes = (14, n, 1)
+family_place n m lines sets RaisedPrices = (15, n, 1)
 family_place n m lines sets Doubles = (16, n, 1)
 family_place n m lines sets Keys = (17, n, 1)
 family_place n m lines sets Nexts = (18, n, 1)
@@ -63,7 +63,7 @@ columns_of n m f = (family_place n m (m * m) (2 ^ m) f).2
 abbrev pub families : List Family
 families =
     Bids ∷ Capacities ∷ Amounts ∷ Flows ∷ Prices ∷ Temporaries ∷ ZeroCells ∷ Units ∷ Hundreds ∷ Shifts
-    ∷ Tops ∷ PoolNumbers ∷ Sides ∷ Sizes ∷ WholePrices ∷ PositivePrices ∷ Doubles ∷ Keys ∷ Nexts ∷ Memberships
+    ∷ Tops ∷ PoolNumbers ∷ Sides ∷ Sizes ∷ RaisedWholes ∷ RaisedPrices ∷ Doubles ∷ Keys ∷ Nexts ∷ Memberships
     ∷ PoolSizes ∷ Demands ∷ Subsets ∷ Cuts ∷ SizesBefore ∷ RanksBefore ∷ SizesWith ∷ RanksWith ∷ Uses ∷ Placements
     ∷ Slacks ∷ SlackTests ∷ ReachTests ∷ Margins ∷ PoolMargins ∷ BestMargins ∷ PriceTests ∷ PoolWholes ∷ []
 
@@ -100,8 +100,8 @@ abbrev pub Pool : ℕ → Name
 Pool i = at Bids i 0
 
 -- the whole part of the price of bid i
-abbrev pub Price : ℕ → Name
-Price i = at Bids i price_place
+abbrev pub WholePrice : ℕ → Name
+WholePrice i = at Bids i price_place
 
 -- the quantity of bid i: above 0 it is a purchase, else a sale
 abbrev pub Quantity : ℕ → Name
@@ -153,11 +153,11 @@ One = at Units 0 0
 abbrev pub Hundred : Name
 Hundred = at Hundreds 0 0
 
--- the limit of the whole parts of prices and 1
+-- the limit of the whole parts of prices
 abbrev pub Shift : Name
 Shift = at Shifts 0 0
 
--- what a positive price and its margin add up to
+-- what a raised price and the margin of a bid that is not used up add up to
 abbrev pub Top : Name
 Top = at Tops 0 0
 
@@ -173,23 +173,23 @@ Side i = at Sides i 0
 abbrev pub Size : ℕ → Name
 Size i = at Sizes i 0
 
--- the whole part of the price of bid i and the shift
-abbrev pub WholePrice : ℕ → Name
-WholePrice i = at WholePrices i 0
+-- the whole part of the price of bid i, and the shift
+abbrev pub RaisedWhole : ℕ → Name
+RaisedWhole i = at RaisedWholes i 0
 
 -- 100 times that, and the hundredths of bid i
-abbrev pub PositivePrice : ℕ → Name
-PositivePrice i = at PositivePrices i 0
+abbrev pub RaisedPrice : ℕ → Name
+RaisedPrice i = at RaisedPrices i 0
 
--- twice the positive price of bid i
+-- twice the raised price of bid i
 abbrev pub Double : ℕ → Name
 Double i = at Doubles i 0
 
--- twice the positive price of bid i, and 1 more for a purchase
+-- twice the raised price of bid i, and 1 more for a purchase
 abbrev pub Key : ℕ → Name
 Key i = at Keys i 0
 
--- twice the positive price of bid i, and 1 more
+-- twice the raised price of bid i, and 1 more
 abbrev pub Next : ℕ → Name
 Next i = at Nexts i 0
 
@@ -261,10 +261,10 @@ PoolMargin p = at PoolMargins p 0
 abbrev pub BestMargin : ℕ → Name
 BestMargin p = at BestMargins p 0
 
--- 1 if bid i has the best margin of pool p, and so its price, else 0
+-- 1 if bid i has the best margin of pool p, and so its price if the pool has one, else 0
 abbrev pub PriceTest : ℕ → ℕ → Name
 PriceTest i p = at PriceTests i p
 
--- the whole part, and the shift, of the price of pool p
+-- the whole part, and the shift, of the price of pool p, if it has one
 abbrev pub PoolWhole : ℕ → Name
 PoolWhole p = at PoolWholes p 0

@@ -63,11 +63,11 @@ size_residue (negsuc a) h =
     let whole : minus (modulus - suc a) 0 ≡ modulus - suc a = omega arith in
     rw (nothing, whole) (omega arith)
 
--- the whole part of a price, raised by its limit and 1
-pub raise_residue : (z : ℤ) (r : ℕ) → z +ℤ pos whole_limit ≡ pos r → r ≤ 2 * whole_limit → plus (residue z) (suc whole_limit) ≡ suc r
+-- the whole part of a price, raised by its limit
+pub raise_residue : (z : ℤ) (r : ℕ) → z +ℤ pos whole_limit ≡ pos r → r ≤ 2 * whole_limit → plus (residue z) whole_limit ≡ r
 raise_residue (pos a) r e h = let q : a + whole_limit ≡ r = ap nat_abs e in omega arith
 raise_residue (negsuc a) r e h = go (lt? whole_limit (suc a)) e
   where
-    go : {t : Bool} → Lt? whole_limit (suc a) t → cond t (negsuc (suc a - suc whole_limit)) (pos (whole_limit - suc a)) ≡ pos r → plus (modulus - suc a) (suc whole_limit) ≡ suc r
+    go : {t : Bool} → Lt? whole_limit (suc a) t → cond t (negsuc (suc a - suc whole_limit)) (pos (whole_limit - suc a)) ≡ pos r → plus (modulus - suc a) whole_limit ≡ r
     go (less l) f = let q : ◌≡◌ {A = ℕ} 0 1 = cc in omega arith
     go (more l) f = let q : whole_limit - suc a ≡ r = ap nat_abs f in omega arith

@@ -4,9 +4,9 @@ use Rattle.std.specs.Prelude.{◌≡◌, refl, List, [], ◌∷◌, ◌++◌, �
 use Rattle.std.proofs.Common.{arith}
 use Rattle.definitions.specs.Arithmetic.{sum_to}
 use Rattle.plan.specs.Orders.{OrderOn}
-use Rattle.plan.specs.Names.{Temporaries, number, family_at, family_count, rows_of, columns_of, Name, Demand, SizeBefore, RankBefore, SizeWith, RankWith, Placement, Membership, ReachTest, Margin, PoolMargin, BestMargin, WholePrice, PriceTest, PoolWhole}
+use Rattle.plan.specs.Names.{Temporaries, number, family_at, family_count, rows_of, columns_of, Name, Demand, SizeBefore, RankBefore, SizeWith, RankWith, Placement, Membership, ReachTest, Margin, PoolMargin, BestMargin, RaisedWhole, PriceTest, PoolWhole}
 use Rattle.plan.specs.Running.{subset_block}
-use Rattle.plan.specs.Blocks.{Block, unit_block, hundred_block, shift_block, top_block, pool_number_block, side_block, size_block, whole_price_block, positive_price_block, double_block, key_block, next_block, membership_block, pool_size_block, demand_start, demand_turn, cut_start, cut_turn, test_order, gain_turn, size_before_start, cost_start, cost_turn, size_with_block, use_block, amount_block, placement_start, placement_turn, slack_block, rest_start, rest_turn, flow_block, take_turn, slack_test_block, reach_start, reach_turn, margin_block, greatest_start, greatest_turn, price_test_block, price_block, zero_block}
+use Rattle.plan.specs.Blocks.{Block, unit_block, hundred_block, shift_block, top_block, pool_number_block, side_block, size_block, raised_whole_block, raised_price_block, double_block, key_block, next_block, membership_block, pool_size_block, demand_start, demand_turn, cut_start, cut_turn, test_order, gain_turn, size_before_start, cost_start, cost_turn, size_with_block, use_block, amount_block, placement_start, placement_turn, slack_block, rest_start, rest_turn, flow_block, take_turn, slack_test_block, reach_start, reach_turn, margin_block, greatest_start, greatest_turn, price_test_block, price_block, zero_block}
 use Rattle.plan.specs.Loops.{loop}
 use Rattle.plan.specs.Phased.{PartOf, PhaseOf, part, phase, stretch, row_of, even_length, phase_in}
 
@@ -158,9 +158,9 @@ module _ (n m : ℕ) where
   abbrev pub best_margin_phase : Phase
   best_margin_phase = greatest_phase m BestMargin (λ p q. ReachTest (q * m + p)) PoolMargin
 
-  -- of the whole parts of the bids that have a pool's price, which are one number
+  -- of the whole parts of the bids that have a pool's price, which are one number if it has one
   abbrev pub pool_whole_phase : Phase
-  pool_whole_phase = greatest_phase n PoolWhole (λ p i. PriceTest i p) WholePrice
+  pool_whole_phase = greatest_phase n PoolWhole (λ p i. PriceTest i p) RaisedWhole
 
   -- ---- the scratch
 
@@ -184,8 +184,8 @@ module _ (n m : ℕ) where
       ∷ phase m (each 1 pool_number_block (λ p. refl) ∷ [])
       ∷ phase n (each 1 side_block (λ i. refl) ∷ [])
       ∷ phase n (each 3 size_block (λ i. refl) ∷ [])
-      ∷ phase n (each 1 whole_price_block (λ i. refl) ∷ [])
-      ∷ phase n (each 2 positive_price_block (λ i. refl) ∷ [])
+      ∷ phase n (each 1 raised_whole_block (λ i. refl) ∷ [])
+      ∷ phase n (each 2 raised_price_block (λ i. refl) ∷ [])
       ∷ phase n (each 1 double_block (λ i. refl) ∷ [])
       ∷ phase n (each 1 key_block (λ i. refl) ∷ [])
       ∷ phase n (each 1 next_block (λ i. refl) ∷ [])

@@ -22,9 +22,9 @@ pub enum Family {
     Units,
     // The number 100.
     Hundreds,
-    // The limit of the whole parts of prices and 1.
+    // The limit of the whole parts of prices.
     Shifts,
-    // What a positive price and its margin add up to.
+    // What a raised price and the margin of a bid that is not used up add up to.
     Tops,
     // Each pool's number in a book, from 1.
     PoolNumbers,
@@ -32,11 +32,11 @@ pub enum Family {
     Sides,
     // Each bid's quantity without its sign.
     Sizes,
-    // The whole part of each bid's price made positive.
-    WholePrices,
-    // Each bid's price in hundredths made positive.
-    PositivePrices,
-    // Each positive price doubled.
+    // The whole part of each bid's price, raised so that it is not negative.
+    RaisedWholes,
+    // Each bid's price in hundredths, raised so.
+    RaisedPrices,
+    // Each raised price doubled.
     Doubles,
     // Each doubled price and the side.
     Keys,
@@ -76,9 +76,9 @@ pub enum Family {
     PoolMargins,
     // The greatest margin in the pools that reach each pool.
     BestMargins,
-    // Whether a bid has a pool's best margin, and so its price, as 1 or 0.
+    // Whether a bid has a pool's best margin, and so its price if the pool has one, as 1 or 0.
     PriceTests,
-    // The whole part of each pool's price made positive.
+    // The whole part, raised, of each pool's price, if it has one.
     PoolWholes,
 }
 
@@ -102,8 +102,8 @@ impl Family {
         Family::PoolNumbers,
         Family::Sides,
         Family::Sizes,
-        Family::WholePrices,
-        Family::PositivePrices,
+        Family::RaisedWholes,
+        Family::RaisedPrices,
         Family::Doubles,
         Family::Keys,
         Family::Nexts,

@@ -2,7 +2,7 @@
 use Rattle.std.specs.Prelude.{◌≡◌, Bool, true, false, ◌&&◌, eqb, ltb}
 use Rattle.std.proofs.Common.{refl, sym, ap, ap₂, ◌∙◌, mul-le-mul_right, pow_pos, not, cond, ℕ, zero, suc, ◌+◌, ◌*◌, ◌-◌, ◌≤◌, ◌<◌, ◌/◌, ◌%◌, ◌^◌, min, arith}
 use Rattle.std.proofs.Math.Arith.{digits_div, digits_mod}
-use Rattle.definitions.specs.Limits.{bid_limit, pool_limit, hundred, price_limit, quantity_limit, capacity_limit, greatest_positive}
+use Rattle.definitions.specs.Limits.{bid_limit, pool_limit, price_limit, quantity_limit, capacity_limit, greatest_positive}
 use Rattle.definitions.specs.Arithmetic.{on, sum_to}
 use Rattle.definitions.specs.Book.{Book, purchase, size, capacity}
 use Rattle.definitions.specs.Clearing.{Clearing, Best, Permitted, before}
@@ -10,7 +10,7 @@ use Rattle.definitions.specs.Calls.{AcceptedBook}
 use Rattle.laws.specs.Tests.{on_le}
 use Rattle.laws.specs.Sum.{sum_ext, sum_add, sum_one, sum_bound}
 use Rattle.laws.specs.Extremes.{min_to, min_ext, min_le_start}
-use Rattle.laws.specs.AcceptedBook.{Sound, accepted_sound, pool_index}
+use Rattle.laws.specs.AcceptedBook.{Sound, accepted_sound, pool_index, raised_price}
 use Rattle.theory.specs.Network.{◌adding◌}
 use Rattle.theory.specs.Choices.{on_add, on_on, on_and}
 use Rattle.theory.specs.Subsets.{member}
@@ -20,16 +20,15 @@ use Rattle.theory.specs.Balance.{by_pool, eqb_symmetric}
 use Rattle.theory.specs.Slacks as slacks
 use Rattle.theory.specs.Greatest as greatest
 use Rattle.theory.specs.Welfare.{turn}
-use Rattle.theory.specs.MeritOrder.{merit, key_low, key_high}
+use Rattle.theory.specs.MeritOrder.{key_low, key_high}
 use Rattle.theory.specs.Grid.{sum_rows}
 use Rattle.theory.specs.Bounds.{rank_masks, cost_with, cost_small, slack_next}
-use Rattle.theory.specs.Hundredths.{price_raised}
-use Rattle.theory.specs.BookNetwork.{network_of, network_sound, before_raised, before_strict_total}
+use Rattle.theory.specs.BookNetwork.{network_of, network_sound, before_is, before_strict_total}
 use Rattle.theory.specs.FlowOrder.{FirstFlows}
 use Rattle.theory.specs.SameClearing.{best_same, permitted_same, first_flows_same}
 use Rattle.theory.specs.CutClearing.{cut_used, cut_clearing, within_cuts, cut_best, cut_permitted}
 use Rattle.theory.specs.BestClearing.{best_unique}
-use Rattle.theory.specs.ClosedForms.{leaves, subset_sum, positive_price, key, pool_size, demand, cut, size_before, size_with, cost, rank, used_amount, accepted_amount, placement, slack, rest_of, flow_of, taken_of, slack_after, line_flow, closed_clearing}
+use Rattle.theory.specs.ClosedForms.{leaves, subset_sum, key, pool_size, demand, cut, size_before, size_with, cost, rank, used_amount, accepted_amount, placement, slack, rest_of, flow_of, taken_of, slack_after, line_flow, closed_clearing}
 use Rattle.theory.specs.ClosedBest.{size_total, amount_limit}
 use Rattle.theory.proofs.CutClearing.{cut_first_flows}
 
@@ -53,19 +52,16 @@ taken_less s t y r f = omega (arith, taken_sum s t r f)
 module _ (B : Book) (ok : Sound B) where
   -- ---- merit by keys
 
-  before_positive_price : (j i : ℕ) → j < B.n → i < B.n → before B j i ≡ merit (λ i. positive_price B i) (λ i. purchase B i) j i
-  before_positive_price = before_raised B (price_limit + hundred) (λ i. positive_price B i) (λ i l. omega (arith, price_raised B ok i l))
+  pub before_low : (j i : ℕ) → j < B.n → i < B.n → j < i → before B j i ≡ ltb (key B j) (2 * raised_price B i + 1)
+  before_low j i l r h = before_is B ok j i l r ∙ key_low (λ i. raised_price B i) (λ i. purchase B i) j i h
 
-  pub before_low : (j i : ℕ) → j < B.n → i < B.n → j < i → before B j i ≡ ltb (key B j) (2 * positive_price B i + 1)
-  before_low j i l r h = before_positive_price j i l r ∙ key_low (λ i. positive_price B i) (λ i. purchase B i) j i h
-
-  pub before_high : (j i : ℕ) → j < B.n → i < B.n → i < j → before B j i ≡ ltb (2 * positive_price B j) (key B i)
-  before_high j i l r h = before_positive_price j i l r ∙ key_high (λ i. positive_price B i) (λ i. purchase B i) j i h
+  pub before_high : (j i : ℕ) → j < B.n → i < B.n → i < j → before B j i ≡ ltb (2 * raised_price B j) (key B i)
+  before_high j i l r h = before_is B ok j i l r ∙ key_high (λ i. raised_price B i) (λ i. purchase B i) j i h
 
   pub before_self : (i : ℕ) → i < B.n → before B i i ≡ false
   before_self i l = (before_strict_total B ok).irreflexive i l
 
-  pub key_small : (i : ℕ) → i < B.n → key B i ≤ 4 * price_limit + 2 * hundred + 1
+  pub key_small : (i : ℕ) → i < B.n → key B i ≤ 4 * price_limit + 1
   key_small i l = omega (arith, ok.price_small i l, on_le (purchase B i) 1)
 
   -- ---- cuts

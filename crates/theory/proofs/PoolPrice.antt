@@ -19,7 +19,7 @@ use Rattle.theory.specs.Choices.{on_on, on_and, and_both, and_made}
 use Rattle.theory.specs.Integers.{RaisedBy, less_le, not_less}
 use Rattle.theory.specs.Hundredths.{parts_apart, whole_raised}
 use Rattle.theory.specs.CutClearing.{best_used_lem}
-use Rattle.theory.specs.ClosedForms.{positive_whole, used_amount, reached, price_margin, margin, pool_margin, best_margin, has_price, pool_whole, closed_price, closed_hundredths, closed_presence}
+use Rattle.theory.specs.ClosedForms.{used_amount, reached, price_margin, margin, pool_margin, best_margin, has_price, pool_whole, closed_price, closed_hundredths, closed_presence}
 use Rattle.theory.specs.PoolPrice.{Supplies, LeastPrice, none, some, supplied, least_price_ext, IsMargin, bid_margin, least_price_margin}
 use Rattle.theory.proofs.ClosedBest.{used_is_cut}
 use Rattle.theory.proofs.Ways.{reaches_says, reaches_made}
@@ -84,7 +84,7 @@ module _ (B : Book) (c : Clearing) (p : ℕ) (r : p < B.m) where
 -- ---- its three cells, from the best margin: the whole part is found at a bid that has the pool's price
 
 -- of a whole part
-whole_cell : (z : ℤ) (r : ℕ) → RaisedBy whole_limit z r → r ≤ 2 * whole_limit → residue z ≡ minus (suc r) (suc whole_limit)
+whole_cell : (z : ℤ) (r : ℕ) → RaisedBy whole_limit z r → r ≤ 2 * whole_limit → residue z ≡ minus r whole_limit
 whole_cell (pos v) r e h = omega arith
 whole_cell (negsuc v) r e h = omega arith
 
@@ -98,20 +98,19 @@ module _ (B : Book) (sound : Sound B) (p : ℕ) where
   supplied_margin i e = rw (and_both (ltb (used_amount B i) (size B i)) (reached B (pool_index B i) p) e).0 refl
 
   -- bids of one margin that is not 0 have one price, and so one whole part
-  same_whole : (i j : ℕ) → i < B.n → j < B.n → 0 < price_margin B i → margin B j ≡ price_margin B i → positive_whole B j ≡ positive_whole B i
+  same_whole : (i j : ℕ) → i < B.n → j < B.n → 0 < price_margin B i → margin B j ≡ price_margin B i → raised_whole B j ≡ raised_whole B i
   unfolding margin
   same_whole i j l r positive = go (ltb (used_amount B j) (size B j))
     where
-      go : (t : Bool) → on t (price_margin B j) ≡ price_margin B i → positive_whole B j ≡ positive_whole B i
+      go : (t : Bool) → on t (price_margin B j) ≡ price_margin B i → raised_whole B j ≡ raised_whole B i
       go true e =
-          ap suc
           (parts_apart (raised_whole B j) (raised_whole B i) (hundredths_part B j) (hundredths_part B i) (sound.hundredths_small j r) (sound.hundredths_small i l)
           (omega (arith, sound.price_small i l, sound.price_small j r))).0
       go false e = absurd (omega arith)
 
-  whole_found : (i : ℕ) → i < B.n → has_price B i p ≡ true → ((j : ℕ) → j < B.n → has_price B j p ≡ true → positive_whole B j ≡ positive_whole B i) → pool_whole B p ≡ positive_whole B i
+  whole_found : (i : ℕ) → i < B.n → has_price B i p ≡ true → ((j : ℕ) → j < B.n → has_price B j p ≡ true → raised_whole B j ≡ raised_whole B i) → pool_whole B p ≡ raised_whole B i
   unfolding pool_whole
-  whole_found i l e same = max_of_same B.n (λ i. has_price B i p) (λ i. positive_whole B i) i l e same
+  whole_found i l e same = max_of_same B.n (λ i. has_price B i p) (λ i. raised_whole B i) i l e same
 
   price_cells : (x : PoolPrice) → LeastPrice B (λ i. supplied B p i ≡ true) B.n x → IsMargin x (best_margin B p) → Cells B p x
   price_cells missing least m = rw m (refl, refl, refl)
@@ -119,9 +118,9 @@ module _ (B : Book) (sound : Sound B) (p : ℕ) where
       let positive : 0 < price_margin B i = (bid_margin B sound i l).1 in
       let best : best_margin B p ≡ price_margin B i = omega (arith, m.0, (bid_margin B sound i l).0) in
       let there : has_price B i p ≡ true = eq-eqb (margin B i) (best_margin B p) (supplied_margin i s ∙ sym best) in
-      let same : (j : ℕ) → j < B.n → has_price B j p ≡ true → positive_whole B j ≡ positive_whole B i =
+      let same : (j : ℕ) → j < B.n → has_price B j p ≡ true → raised_whole B j ≡ raised_whole B i =
       λ j r e. same_whole i j l r positive (eqb-true (margin B j) (best_margin B p) e ∙ best) in
-      let found : pool_whole B p ≡ positive_whole B i = whole_found i l there same in
+      let found : pool_whole B p ≡ raised_whole B i = whole_found i l there same in
       rw (found, best, lt-ltb 0 (price_margin B i) positive, sound.hundredths_is i l)
       (whole_cell (whole_price B i) (raised_whole B i) (whole_raised B sound i l) (sound.whole_small i l), omega (arith, sound.price_small i l), refl)
 

@@ -7,7 +7,7 @@ use Rattle.definitions.specs.Book.{Book, purchase, size, capacity}
 use Rattle.definitions.specs.Machine.{minus}
 use Rattle.definitions.specs.Clearing.{Clearing, before}
 use Rattle.laws.specs.Extremes.{min_to, max_to}
-use Rattle.laws.specs.AcceptedBook.{pool_index, raised_whole, hundredths_part}
+use Rattle.laws.specs.AcceptedBook.{pool_index, raised_whole, raised_price}
 use Rattle.theory.specs.Subsets.{member}
 
 -- line a to b leaves set S
@@ -18,26 +18,18 @@ leaves S a b = member S a && not (member S b)
 unfoldable pub subset_sum : (m : ℕ) (x : ℕ → ℕ) (S : ℕ) → ℕ
 subset_sum m x S = sum_to m (λ p. on (member S p) (x p))
 
--- what a price made positive and its margin add up to
+-- what a raised price and its margin add up to
 abbrev pub top : ℕ
-top = 2 * price_limit + hundred + 1
+top = 2 * price_limit + 1
 
 module _ (B : Book) where
-  -- the whole part of a price made positive
-  abbrev pub positive_whole : ℕ → ℕ
-  positive_whole i = suc (raised_whole B i)
-
-  -- a price in hundredths made positive
-  abbrev pub positive_price : ℕ → ℕ
-  positive_price i = hundred * positive_whole i + hundredths_part B i
-
   -- 1 for a purchase, 0 for a sale
   abbrev pub side : ℕ → ℕ
   side i = on (purchase B i) 1
 
   -- two keys compare merit: at equal price a sale is before a purchase
   abbrev pub key : ℕ → ℕ
-  key i = 2 * positive_price i + side i
+  key i = 2 * raised_price B i + side i
 
   -- the size of bid i if it is in pool p
   abbrev pub pool_size : (i p : ℕ) → ℕ
@@ -118,7 +110,7 @@ module _ (B : Book) where
 
   -- the limit of prices in hundredths and 1, less the price of bid i: the greater the lower the price, and never 0
   abbrev pub price_margin : ℕ → ℕ
-  price_margin i = top - positive_price i
+  price_margin i = top - raised_price B i
 
   -- this if something of bid i is not used, else 0
   unfoldable pub margin : ℕ → ℕ
@@ -132,17 +124,17 @@ module _ (B : Book) where
   unfoldable pub best_margin : ℕ → ℕ
   best_margin p = max_to B.m (λ q. on (reached q p) (pool_margin q))
 
-  -- bid i has that margin, and so the pool's price
+  -- bid i has that margin, and so the pool's price if the pool has one
   abbrev pub has_price : (i p : ℕ) → Bool
   has_price i p = eqb (margin i) (best_margin p)
 
-  -- the whole part of the price of such a bid, made positive
+  -- the whole part, raised, of the price of such a bid
   unfoldable pub pool_whole : ℕ → ℕ
-  pool_whole p = max_to B.n (λ i. on (has_price i p) (positive_whole i))
+  pool_whole p = max_to B.n (λ i. on (has_price i p) (raised_whole B i))
 
   -- a pool's price cell, 0 if it has none
   abbrev pub closed_price : ℕ → ℕ
-  closed_price p = on (ltb 0 (best_margin p)) (minus (pool_whole p) (suc whole_limit))
+  closed_price p = on (ltb 0 (best_margin p)) (minus (pool_whole p) whole_limit)
 
   -- its hundredths: what the price has above 100 times its whole part
   abbrev pub closed_hundredths : ℕ → ℕ

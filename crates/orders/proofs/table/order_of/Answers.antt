@@ -1,4 +1,4 @@
--- The shift is one more than the limit of whole prices, and a pool's number in a book one more than its index.
+-- The shift is the limit of the whole parts, and a pool's number in a book is one more than its index.
 use Rattle.std.proofs.Common.{refl, add-one}
 use Rattle.plan.specs.Table.{phase_at, table, work}
 use Rattle.orders.specs.Shaped.{only_known}
