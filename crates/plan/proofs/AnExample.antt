@@ -28,20 +28,18 @@ pub example_run : run_of (plan 3 3) (sealed_sheet three_pools) ≡ three_pools_c
 unfolding sum_to sealed_sheet run_of member lowest others scratch_count work table plan
 example_run = refl
 
--- three pools, line 1 to 2 carries 3, the others 0; sales at 10.50 of 3 in pool 1 and at −4.20 of 1 and −4.25 of 4 in pool 3, a purchase at 30.25 of 3 in
--- pool 2: the first sale is used up and the line is full, so that pool 1 has the price of the purchase from the other end of the line, and nobody that of
--- the sales in pool 3 but this pool; and of these, which have one whole part, it has the lower
+-- three pools, line 1 to 2 carries 3, the others 0; a sale at 10.50 of 3 in pool 1, a purchase at 30.25 of 3 in pool 2, a sale at −4.25 of 4 in pool 3: the
+-- first sale is used up and the line is full, so that pool 1 has the price of the purchase from the other end of the line, and nobody that of the sale in
+-- pool 3 but this pool
 full_line : Book
 full_line =
-    book 4 3
-    (pos 1 ∷ pos 10 ∷ neg_ℤ (pos 3) ∷ pos 50 ∷ pos 2 ∷ pos 30 ∷ pos 3 ∷ pos 25
-    ∷ pos 3 ∷ neg_ℤ (pos 5) ∷ neg_ℤ (pos 1) ∷ pos 80 ∷ pos 3 ∷ neg_ℤ (pos 5) ∷ neg_ℤ (pos 4) ∷ pos 75 ∷ [])
+    book 3 3 (pos 1 ∷ pos 10 ∷ neg_ℤ (pos 3) ∷ pos 50 ∷ pos 2 ∷ pos 30 ∷ pos 3 ∷ pos 25 ∷ pos 3 ∷ neg_ℤ (pos 5) ∷ neg_ℤ (pos 4) ∷ pos 75 ∷ [])
     (pos 0 ∷ pos 3 ∷ pos 0 ∷ pos 0 ∷ pos 0 ∷ pos 0 ∷ pos 0 ∷ pos 0 ∷ pos 0 ∷ [])
 
 prices_run :
-    run_of (plan 4 3) (sealed_sheet full_line)
-    ≡ 1 ∷ 10 ∷ 2147483644 ∷ 50 ∷ 2 ∷ 30 ∷ 3 ∷ 25 ∷ 3 ∷ 2147483642 ∷ 2147483646 ∷ 80 ∷ 3 ∷ 2147483642 ∷ 2147483643 ∷ 75 ∷ 0 ∷ 3 ∷ 0 ∷ 0 ∷ 0 ∷ 0 ∷ 0 ∷ 0 ∷ 0
-    ∷ 3 ∷ 3 ∷ 0 ∷ 0 ∷ 0 ∷ 3 ∷ 0 ∷ 0 ∷ 0 ∷ 0 ∷ 0 ∷ 0 ∷ 0 ∷ 30 ∷ 25 ∷ 1 ∷ 30 ∷ 25 ∷ 1 ∷ 2147483642 ∷ 75 ∷ 1 ∷ replicate (cell_count - first_scratch 4 3) 0
+    run_of (plan 3 3) (sealed_sheet full_line)
+    ≡ 1 ∷ 10 ∷ 2147483644 ∷ 50 ∷ 2 ∷ 30 ∷ 3 ∷ 25 ∷ 3 ∷ 2147483642 ∷ 2147483643 ∷ 75 ∷ 0 ∷ 3 ∷ 0 ∷ 0 ∷ 0 ∷ 0 ∷ 0 ∷ 0 ∷ 0
+    ∷ 3 ∷ 3 ∷ 0 ∷ 0 ∷ 3 ∷ 0 ∷ 0 ∷ 0 ∷ 0 ∷ 0 ∷ 0 ∷ 0 ∷ 30 ∷ 25 ∷ 1 ∷ 30 ∷ 25 ∷ 1 ∷ 2147483642 ∷ 75 ∷ 1 ∷ replicate (cell_count - first_scratch 3 3) 0
 unfolding full_line sum_to sealed_sheet run_of member lowest others scratch_count work table plan
 prices_run = refl
 

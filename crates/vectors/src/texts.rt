@@ -28,7 +28,10 @@ pub fn show_all(rt: &impl Print) -> io::Result<()> {
             ("example 3:", "2 1 1 25 -5 0 1 25 5 0 0"),
             ("example 4:", "3 1 1 10 -5 0 1 30 4 0 1 30 4 0 0"),
             ("example 5:", "2 1 1 -10 -4 0 1 -20 4 0 0"),
-            ("example 6:", "3 3 1 10 -9 0 2 15 4 0 3 40 6 0 0 5 0 0 0 2 0 0 0"),
+            (
+                "example 6:",
+                "3 3 1 10 -9 0 2 15 4 0 3 40 6 0 0 5 0 0 0 2 0 0 0",
+            ),
             ("example 7:", "0 2 0 7 7 0"),
             (
                 "rerouting:",
@@ -36,7 +39,10 @@ pub fn show_all(rt: &impl Print) -> io::Result<()> {
             ),
             // The edges of the limits.
             ("negative prices:", "2 1 1 -20 -4 0 1 -10 4 0 0"),
-            ("greatest and least:", "2 1 1 -30000 -65535 0 1 30000 65535 0 0"),
+            (
+                "greatest and least:",
+                "2 1 1 -30000 -65535 0 1 30000 65535 0 0",
+            ),
             ("dear sale alone:", "1 1 1 30000 -65535 0 0"),
             ("cheap sale alone:", "1 1 1 -30000 -65535 0 0"),
             ("sale at 0 alone:", "1 1 1 0 -1 0 0"),
@@ -44,8 +50,14 @@ pub fn show_all(rt: &impl Print) -> io::Result<()> {
             ("two offers at 25:", "3 1 1 25 -5 40 1 25 -5 10 1 30 6 0 0"),
             ("a hundredth too little:", "2 1 1 25 -5 10 1 25 5 9 0"),
             ("hundredths below 0:", "3 1 1 -3 -4 25 1 -3 -4 0 1 -2 5 0 0"),
-            ("beside 0, and no price:", "2 3 1 -1 -2 50 2 0 -2 75 0 0 0 0 0 0 0 0 0"),
-            ("next to both ends:", "2 2 1 -30000 -1 99 2 29999 -1 99 0 0 0 0"),
+            (
+                "beside 0, and no price:",
+                "2 3 1 -1 -2 50 2 0 -2 75 0 0 0 0 0 0 0 0 0",
+            ),
+            (
+                "next to both ends:",
+                "2 2 1 -30000 -1 99 2 29999 -1 99 0 0 0 0",
+            ),
             // What is refused, and by which number.
             ("price too high:", "1 1 1 30001 5 0 0"),
             ("hundredths below:", "1 1 1 20 5 -1 0"),
