@@ -12,6 +12,7 @@ use Rattle.definitions.specs.Book.{Book, book, pool, whole_price, hundredths, in
 use Rattle.definitions.specs.Answers.{none, first, numbered}
 use Rattle.definitions.specs.Calls.{AcceptedBook, seal_refusal, counts_refusal, length_refusal, tables_right, bids_refusal, price_in_range, bid_fault, capacities_refusal, row_refusal, entry_refusal, capacity_fault}
 use Rattle.std.specs.Cmp.{first_so, second_so}
+use Rattle.std.specs.Cmp.Derive.{both_true}
 use Rattle.laws.specs.Tests.{Lt?, less, more, lt?}
 use Rattle.laws.specs.SignedTests.{eq_z_true}
 use Rattle.laws.specs.Refusal.{first_left, first_right, first_both, all_none, none_all, numbered_zero}
@@ -108,10 +109,11 @@ below_zero v k l =
     go (less h) = ap negsuc (omega arith)
     go (more h) = absurd (omega arith)
 
-record SoundPrice (whole hundredths : ℤ) : Type 0 where
+-- what a price in range is
+pub record SoundPrice (whole hundredths : ℤ) : Type 0 where
   whole_sized : nat_abs whole ≤ whole_limit
-  hundredths_are : hundredths ≡ pos (nat_abs hundredths)
-  hundredths_sized : nat_abs hundredths ≤ hundredths_limit
+  pub hundredths_are : hundredths ≡ pos (nat_abs hundredths)
+  pub hundredths_sized : nat_abs hundredths ≤ hundredths_limit
   price_sized : nat_abs (in_hundredths whole hundredths) ≤ price_limit
   raised_sized : hundred * nat_abs (whole +ℤ pos whole_limit) + nat_abs hundredths ≤ 2 * price_limit
 
@@ -125,7 +127,7 @@ sizes_of_price (negsuc v) k p q e = (rw (below_zero v k q) (omega arith), omega 
     go (less l) = absurd (omega arith)
     go (more l) = refl
 
-sound_price : (y h : ℤ) → price_in_range y h ≡ true → SoundPrice y h
+pub sound_price : (y h : ℤ) → price_in_range y h ≡ true → SoundPrice y h
 sound_price y h e =
     let range = within (neg_ℤ (pos whole_limit)) (pos whole_limit) y in
     let both = second_so range _ e in
@@ -144,12 +146,9 @@ sound_price y h e =
 
 price_passes : (y h : ℤ) (k : ℕ) → nat_abs y ≤ whole_limit → h ≡ pos k → k ≤ hundredths_limit → nat_abs (in_hundredths y h) ≤ price_limit → price_in_range y h ≡ true
 price_passes y h k p e q r =
-    both (size_in whole_limit y p)
-    (both (within_from_zero hundredths_limit k h e q)
+    both_true (size_in whole_limit y p)
+    (both_true (within_from_zero hundredths_limit k h e q)
     (second_so (le_z (neg_ℤ (pos price_limit)) (in_hundredths y h)) _ (size_in price_limit (in_hundredths y h) r)))
-  where
-    both : {s t : Bool} → s ≡ true → t ≡ true → (s && t) ≡ true
-    both a b = rw (a, b) refl
 
 -- ---- one bid, one entry
 

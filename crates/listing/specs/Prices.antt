@@ -14,17 +14,18 @@ abbrev pub priced_text : Option ℤ → List ℕ
 priced_text (Some price) = decimal_z price
 priced_text None = none_word
 
--- its line
+-- the line of a pool with this text for its price
+abbrev line_with : (pool : ℕ) (text : List ℕ) → List ℕ
+line_with pool text = price_word ++ (space ++ (decimal pool ++ (space ++ (text ++ newline))))
+
+-- of a pool with this price
 abbrev pub pool_line : (pool : ℕ) → Option ℤ → List ℕ
-pool_line pool price = price_word ++ (space ++ (decimal pool ++ (space ++ (priced_text price ++ newline))))
+pool_line pool price = line_with pool (priced_text price)
 
 pub price_shown : (pool : ℕ) (price hundredths presence : ℤ) → pool_line pool (priced price hundredths presence) ≡ price_line pool price hundredths presence
 unfolding price_line
 price_shown pool price hundredths presence = go (lt_z (pos 0) presence) (in_hundredths price hundredths)
   where
-    line : List ℕ → List ℕ
-    line text = price_word ++ (space ++ (decimal pool ++ (space ++ (text ++ newline))))
-
-    go : (t : Bool) (z : ℤ) → line (priced_text (cond t (Some z) None)) ≡ line (cond t (decimal_z z) none_word)
+    go : (t : Bool) (z : ℤ) → line_with pool (priced_text (cond t (Some z) None)) ≡ line_with pool (cond t (decimal_z z) none_word)
     go true z = refl
     go false z = refl

@@ -1,14 +1,11 @@
 -- A limit price in its two parts: raised so that none is negative, it is 100 times its whole part, raised, and its hundredths (`price_raised`). Equal
 -- prices have equal parts (`equal_prices`).
-use Rattle.std.specs.Prelude.{◌≡◌, true, ℕ, suc, ◌+◌, ◌-◌, ◌*◌, ◌≤◌, ◌<◌, ℤ, pos, negsuc, nat_abs, neg_ℤ, ◌*ℤ◌}
+use Rattle.std.specs.Prelude.{◌≡◌, true, ℕ, suc, ◌+◌, ◌-◌, ◌*◌, ◌≤◌, ◌<◌, ℤ, pos, negsuc, nat_abs, ◌*ℤ◌}
 use Rattle.std.proofs.Common.{sym, ap, ◌∙◌, subst, arith}
-use Rattle.std.specs.Int.Signed.{le_z}
-use Rattle.std.specs.Cmp.{first_so, second_so}
 use Rattle.definitions.specs.Limits.{whole_limit, hundredths_limit, hundred, price_limit}
-use Rattle.definitions.specs.Arithmetic.{within}
 use Rattle.definitions.specs.Book.{Book, whole_price, in_hundredths, price}
 use Rattle.definitions.specs.Calls.{price_in_range}
-use Rattle.laws.specs.AcceptedBook.{Sound, raised_whole, hundredths_part, raised_price, from_zero, below_zero}
+use Rattle.laws.specs.AcceptedBook.{Sound, raised_whole, hundredths_part, raised_price, below_zero, sound_price}
 use Rattle.theory.specs.Integers.{RaisedBy, raised_by, add_read, multiply_read}
 
 parts_raised : (c : ℕ) (w : ℤ) (r k : ℕ) → RaisedBy c w r → RaisedBy (hundred * c) (in_hundredths w (pos k)) (hundred * r + k)
@@ -40,15 +37,11 @@ signed_apart (negsuc a) (negsuc b) h k p q e =
     let parts = parts_apart a b (hundredths_limit - h) (hundredths_limit - k) (omega arith) (omega arith) (omega arith) in
     (ap negsuc parts.0, omega (arith, parts.1))
 
--- hundredths in range
-hundredths_in : (w h : ℤ) → price_in_range w h ≡ true → (h ≡ pos (nat_abs h)) × (nat_abs h ≤ hundredths_limit)
-hundredths_in w h e =
-    from_zero hundredths_limit h
-    (first_so (within (pos 0) (pos hundredths_limit) h) (le_z (in_hundredths w h) (pos price_limit)) (second_so (within (neg_ℤ (pos whole_limit)) (pos whole_limit) w) _ e))
-
 pub equal_prices : (w h v g : ℤ) → price_in_range w h ≡ true → price_in_range v g ≡ true → in_hundredths w h ≡ in_hundredths v g → (w ≡ v) × (h ≡ g)
 equal_prices w h v g p q e =
-    let a = hundredths_in w h p in
-    let b = hundredths_in v g q in
-    let parts = signed_apart w v (nat_abs h) (nat_abs g) a.1 b.1 (ap (in_hundredths w) (sym a.0) ∙ e ∙ ap (in_hundredths v) b.0) in
-    (parts.0, a.0 ∙ ap pos parts.1 ∙ sym b.0)
+    let a = sound_price w h p in
+    let b = sound_price v g q in
+    let parts =
+    signed_apart w v (nat_abs h) (nat_abs g) a.hundredths_sized b.hundredths_sized (ap (in_hundredths w) (sym a.hundredths_are) ∙ e ∙ ap (in_hundredths v) b.hundredths_are)
+    in
+    (parts.0, a.hundredths_are ∙ ap pos parts.1 ∙ sym b.hundredths_are)
