@@ -23,7 +23,7 @@ pub record ClearedBy (orders : List Order) (A : Book) : Type 0 where
   pub ends : asked plan A.n A.m (length orders) ≡ ended
   -- "Run by the machine of document 01, this plan turns A's sealed sheet into A's best clearing .. with flows and prices by document 01 in
   -- their cells; input cells stay as sealed, and every scratch cell ends at 0."
-  pub outcome : Outcome A (run_of orders (sealed_sheet A))
+  pub outcome : Outcome A (sealed_sheet A) (run_of orders (sealed_sheet A))
   -- the runner accepts the list's bytes on A's sealed sheet, leaves that run's sheet and gives the list's length
   pub by_bytes : RunsAs (sealed_sheet A) orders
   -- "Clearing either book, whatever the lent sheet held before, leaves exactly the sheet that this run gives for that book"

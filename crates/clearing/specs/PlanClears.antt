@@ -29,7 +29,7 @@ module _ (B : Book) (accepted : AcceptedBook B) where
   clearing : Best B (result_of B left) × Permitted B (result_of B left) × FirstFlows B (result_of B left)
   clearing = closed_clearing_lem B accepted (result_of B left) cleared.amount_cells cleared.flow_cells
 
-  pub plan_outcome : Outcome B (plan_run plan B)
+  pub plan_outcome : Outcome B (sealed_sheet B) (plan_run plan B)
   unfolding plan_run
   plan_outcome = record {
     cells = cleared.length_kept;
@@ -51,6 +51,6 @@ three_pools_accepted : AcceptedBook three_pools
 unfolding seal_refusal bids_refusal capacities_refusal row_refusal first_from
 three_pools_accepted = refl
 
-pub example_outcome : Outcome three_pools three_pools_cleared
+pub example_outcome : Outcome three_pools (sealed_sheet three_pools) three_pools_cleared
 unfolding plan_run
-example_outcome = subst (Outcome three_pools) example_run (plan_outcome three_pools three_pools_accepted)
+example_outcome = subst (Outcome three_pools (sealed_sheet three_pools)) example_run (plan_outcome three_pools three_pools_accepted)

@@ -62,53 +62,53 @@ five_rests c best = go (best.greatest (amounts []) none_feasible)
 -- ---- the shams
 
 -- "A plan with no orders"
-no_orders_lem : Outcome book_one (run_of [] (sealed_sheet book_one)) → ⊥
+no_orders_lem : Outcome book_one (sealed_sheet book_one) (run_of [] (sealed_sheet book_one)) → ⊥
 unfolding book_one run_of sealed_sheet
 no_orders_lem h = omega (arith, one_trades _ h.best)
 
 -- "or one that treats only the cheapest bid": the second bid in merit order is left at 0
-only_the_first_bid : (s : List ℕ) → cell s (amount_cell 2 1 1) ≡ 0 → Outcome book_one s → ⊥
+only_the_first_bid : (s : List ℕ) → cell s (amount_cell 2 1 1) ≡ 0 → Outcome book_one (sealed_sheet book_one) s → ⊥
 unfolding book_one sold bought inflow outflow sum_to
 only_the_first_bid s e h = omega (arith, one_trades _ h.best, h.best.feasible.balance 0 (omega arith))
 
 -- "A fixed clearing for every book": two books of equal counts with the same amounts
-one_fixed_clearing : (s t : List ℕ) → Outcome book_one s → Outcome book_five t → cell s (amount_cell 2 1 0) ≡ cell t (amount_cell 2 1 0) → ⊥
+one_fixed_clearing : (s t : List ℕ) → Outcome book_one (sealed_sheet book_one) s → Outcome book_five (sealed_sheet book_five) t → cell s (amount_cell 2 1 0) ≡ cell t (amount_cell 2 1 0) → ⊥
 unfolding book_one book_five
 one_fixed_clearing s t h k e = omega (arith, one_trades _ h.best, five_rests _ k.best)
 
 -- a scratch cell left at another number than 0
-one_scratch_cell_left : (s : List ℕ) (c : ℕ) → first_scratch 2 1 ≤ c → 0 < cell s c → Outcome book_one s → ⊥
+one_scratch_cell_left : (s : List ℕ) (c : ℕ) → first_scratch 2 1 ≤ c → 0 < cell s c → Outcome book_one (sealed_sheet book_one) s → ⊥
 unfolding book_one
 one_scratch_cell_left s c l some h = omega (arith, h.scratch c l)
 
 -- ---- what else an outcome says
 
 -- input cells are as sealed: the first, one of a negative number, the last
-inputs_kept : (s : List ℕ) → Outcome book_two s → (cell s 0 ≡ 1) × (cell s 2 ≡ 2147483637) × (cell s 11 ≡ 0)
+inputs_kept : (s : List ℕ) → Outcome book_two (sealed_sheet book_two) s → (cell s 0 ≡ 1) × (cell s 2 ≡ 2147483637) × (cell s 11 ≡ 0)
 unfolding book_two sealed_sheet
 inputs_kept s h = (h.inputs 0 (omega arith), h.inputs 2 (omega arith), h.inputs 11 (omega arith))
 
 -- a book with no bid has no price: "all 0 if missing"
-no_price : (s : List ℕ) → Outcome book_seven s
+no_price : (s : List ℕ) → Outcome book_seven (sealed_sheet book_seven) s
     → (cell s (price_cell 0 2 1) ≡ 0) × (cell s (hundredths_cell 0 2 1) ≡ 0) × (cell s (presence_cell 0 2 1) ≡ 0)
 unfolding book_seven pool_price least_price
 no_price s h = (h.prices 1 (omega arith), h.hundredths 1 (omega arith), h.presences 1 (omega arith))
 
 -- a pool has the lower of two prices, that of the sale, of which 4 are left, and that of the purchase
-a_price : (s : List ℕ) → Outcome book_one s → cell s (amount_cell 2 1 0) ≡ 6 → cell s (amount_cell 2 1 1) ≡ 6
+a_price : (s : List ℕ) → Outcome book_one (sealed_sheet book_one) s → cell s (amount_cell 2 1 0) ≡ 6 → cell s (amount_cell 2 1 1) ≡ 6
     → (cell s (price_cell 2 1 0) ≡ 20) × (cell s (presence_cell 2 1 0) ≡ 1)
 unfolding book_one pool_price least_price any_to used reaches reaches_over
 a_price s h e f = (rw (e, f) at (h.prices 0 (omega arith)), rw (e, f) at (h.presences 0 (omega arith)))
 
 -- by the sheet's own flows: line 1 to 2 is full and line 2 to 1 carries nothing, so that pool 2 has its own price and not pool 1's
-by_flows : (s : List ℕ) → Outcome book_two s → cell s (amount_cell 2 2 0) ≡ 3 → cell s (amount_cell 2 2 1) ≡ 3
+by_flows : (s : List ℕ) → Outcome book_two (sealed_sheet book_two) s → cell s (amount_cell 2 2 0) ≡ 3 → cell s (amount_cell 2 2 1) ≡ 3
     → cell s (flow_cell 2 2 0 1) ≡ 3 → cell s (flow_cell 2 2 1 0) ≡ 0
     → (cell s (price_cell 2 2 1) ≡ 30) × (cell s (presence_cell 2 2 1) ≡ 1)
 unfolding book_two pool_price least_price any_to used reaches reaches_over
 by_flows s h e f g k = (simp (e, f, g, k) at (h.prices 1 (omega arith)), simp (e, f, g, k) at (h.presences 1 (omega arith)))
 
 -- a price below 0 stands in its cell as its residue: nothing is accepted, and the sale can be had
-negative_price : (s : List ℕ) → Outcome book_five s → cell s (amount_cell 2 1 0) ≡ 0 → cell s (amount_cell 2 1 1) ≡ 0
+negative_price : (s : List ℕ) → Outcome book_five (sealed_sheet book_five) s → cell s (amount_cell 2 1 0) ≡ 0 → cell s (amount_cell 2 1 1) ≡ 0
     → (cell s (price_cell 2 1 0) ≡ 2147483637) × (cell s (presence_cell 2 1 0) ≡ 1)
 unfolding book_five pool_price least_price any_to used reaches reaches_over
 negative_price s h e f = (rw (e, f) at (h.prices 0 (omega arith)), rw (e, f) at (h.presences 0 (omega arith)))
@@ -117,7 +117,7 @@ negative_price s h e f = (rw (e, f) at (h.prices 0 (omega arith)), rw (e, f) at 
 cheap : Book
 cheap = book 1 1 (pos 1 ∷ neg_ℤ (pos 3) ∷ neg_ℤ (pos 5) ∷ pos 25 ∷ []) (pos 0 ∷ [])
 
-parts_of_price : (s : List ℕ) → Outcome cheap s → cell s (amount_cell 1 1 0) ≡ 0
+parts_of_price : (s : List ℕ) → Outcome cheap (sealed_sheet cheap) s → cell s (amount_cell 1 1 0) ≡ 0
     → (cell s (price_cell 1 1 0) ≡ 2147483644) × (cell s (hundredths_cell 1 1 0) ≡ 25) × (cell s (presence_cell 1 1 0) ≡ 1)
 unfolding cheap pool_price least_price any_to used reaches reaches_over
 parts_of_price s h e =

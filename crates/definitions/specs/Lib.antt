@@ -10,6 +10,7 @@ pub mod Answers
 pub mod Bytes
 pub mod Calls
 pub mod Plan
+pub mod Columns
 pub mod Outcome
 pub mod Examples
 pub mod Settle

@@ -20,10 +20,11 @@ result_of B s = record {
 }
 
 -- "After the whole plan, run from a sealed sheet, input cells are as sealed, the result cells hold the best clearing's accepted amounts,
--- with flows and pool prices as said under The best clearing, and scratch is 0." The prices go by the sheet's own flows.
-pub record Outcome (B : Book) (s : List ℕ) : Type 0 where
+-- with flows and pool prices as said under The best clearing, and scratch is 0." The prices go by the sheet's own flows. The sheet that was sealed is the
+-- one by rows or the one by columns.
+pub record Outcome (B : Book) (sealed s : List ℕ) : Type 0 where
   pub cells : length s ≡ cell_count
-  pub inputs : (c : ℕ) → c < first_result B.n B.m → cell s c ≡ cell (sealed_sheet B) c
+  pub inputs : (c : ℕ) → c < first_result B.n B.m → cell s c ≡ cell sealed c
   pub best : Best B (result_of B s)
   pub permitted : Permitted B (result_of B s)
   pub prices : (p : ℕ) → p < B.m → cell s (price_cell B.n B.m p) ≡ price_residue (pool_price B (result_of B s) p)

@@ -85,7 +85,7 @@ three_hold e f g = cc (e, f, g)
 
 -- ---- the results
 
-module _ (B : Book) (accepted : AcceptedBook B) (s : List ℕ) (left : Outcome B s) where
+module _ (B : Book) (accepted : AcceptedBook B) {sealed : List ℕ} (s : List ℕ) (left : Outcome B sealed s) where
   ok : Sound B
   ok = accepted_sound B accepted
 
