@@ -1,4 +1,5 @@
-// The plan, asked at a position, run on a sheet and written as bytes: all by one table of phases, on which two loops walk.
+// The plan, asked at a position, run on a sheet and written as bytes: all by one table of phases, on which two loops walk. Asking and writing give its
+// orders by rows or by columns.
 // An order is made over the names of cells first; one function then gives each name its cell.
 #![tactic(auto)]
 
@@ -6,12 +7,15 @@ ghost use Rattle.std.specs.Prelude.{◌≡◌, length, IfOk};
 ghost use Rattle.definitions.specs.Answers.{refusal_of, given_or};
 ghost use Rattle.definitions.specs.Calls.{counts_refusal};
 ghost use Rattle.definitions.specs.Plan.{asked, ask_refusal, total, write_refusal, write_counts, write_slice};
+ghost use Rattle.definitions.specs.Columns.{column_plan};
 ghost use Rattle.plan.specs.Plan.{plan};
+ghost use Rattle.columns.specs.Plans.{plan_by};
 ghost use Rattle.orders.specs.Answer.{answer_of, counts_of, SamePlan};
 ghost use Rattle.orders.specs.Runs.{stepped_plan};
 
 use crate::tables::Tables;
 use crate::write::judge_room;
+use columns::Numbering;
 use definitions::{Order, Reason, Verdict};
 
 mod blocks;
@@ -65,22 +69,37 @@ impl Position {
         Ok(())
     }
 
-    // Before the total there is an order, at the total the plan has ended.
-    pub fn ask(self) -> Result<Asked, Reason>
-        ensures answer { answer_of result ≡ asked plan self.n self.m self.at }
+    // Before the total there is an order, by rows or by columns; at the total the plan has ended.
+    pub fn ask_by(self, by: Numbering) -> Result<Asked, Reason>
+        ensures answer { answer_of result ≡ asked (plan_by by plan) self.n self.m self.at }
         ensures same { SamePlan self.n self.m result }
     {
         let tables = self.tables()?;
         if tables.length() <= self.at {
             return Ok(Asked::Ended);
         }
-        let order = tables.order_at(self.at);
+        let order = by.order(tables.counts, tables.order_at(self.at));
         let next = Position {
             n: self.n,
             m: self.m,
             at: self.at + 1,
         };
         Ok(Asked::Order(order, next))
+    }
+
+    pub fn ask(self) -> Result<Asked, Reason>
+        ensures answer { answer_of result ≡ asked plan self.n self.m self.at }
+        ensures same { SamePlan self.n self.m result }
+    {
+        self.ask_by(Numbering::Rows)
+    }
+
+    // The same of the column plan.
+    pub fn ask_columns(self) -> Result<Asked, Reason>
+        ensures answer { answer_of result ≡ asked (column_plan plan) self.n self.m self.at }
+        ensures same { SamePlan self.n self.m result }
+    {
+        self.ask_by(Numbering::Columns)
     }
 }
 
@@ -118,14 +137,38 @@ pub struct Written {
     pub next: usize,
 }
 
-// From a position, fills the slice with as many whole orders as fit and keeps the bytes after them. n, m and at come as numbers, as the C host gives them.
+// From a position, fills the slice with as many whole orders as fit, by rows or by columns, and keeps the bytes after them. n, m and at come as numbers, as
+// the C host gives them.
+pub fn write_by(
+    by: Numbering,
+    n: usize,
+    m: usize,
+    at: usize,
+    out: &mut [u8],
+) -> Result<Written, Reason>
+    ensures refusal { refusal_of result ≡ write_refusal (plan_by by plan) n m at (length out.old) }
+    ensures counts { counts_of result ≡ write_counts (plan_by by plan) n m at (length out.old) }
+    ensures slice { out.new ≡ write_slice (plan_by by plan) n m at out.old }
+{
+    let tables = Tables::judged(n, m)?;
+    let total = tables.length();
+    judge_room(total, at, out.len())?;
+    Ok(tables.write(by, total, at, out))
+}
+
 pub fn write_plan(n: usize, m: usize, at: usize, out: &mut [u8]) -> Result<Written, Reason>
     ensures refusal { refusal_of result ≡ write_refusal plan n m at (length out.old) }
     ensures counts { counts_of result ≡ write_counts plan n m at (length out.old) }
     ensures slice { out.new ≡ write_slice plan n m at out.old }
 {
-    let tables = Tables::judged(n, m)?;
-    let total = tables.length();
-    judge_room(total, at, out.len())?;
-    Ok(tables.write(total, at, out))
+    write_by(Numbering::Rows, n, m, at, out)
+}
+
+// The same of the column plan.
+pub fn write_column_plan(n: usize, m: usize, at: usize, out: &mut [u8]) -> Result<Written, Reason>
+    ensures refusal { refusal_of result ≡ write_refusal (column_plan plan) n m at (length out.old) }
+    ensures counts { counts_of result ≡ write_counts (column_plan plan) n m at (length out.old) }
+    ensures slice { out.new ≡ write_slice (column_plan plan) n m at out.old }
+{
+    write_by(Numbering::Columns, n, m, at, out)
 }

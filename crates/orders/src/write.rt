@@ -6,11 +6,13 @@ ghost use Rattle.plan.specs.Plan.{plan};
 ghost use Rattle.orders.specs.Answer.{written_of};
 ghost use Rattle.orders.specs.Calls.{past_refusal};
 ghost use Rattle.orders.specs.Plans.{plan_of};
+ghost use Rattle.columns.specs.Plans.{plan_by};
 
 use crate::Written;
 use crate::tables::Tables;
 use crate::walk::{Within, settled};
 use codec::write_order;
+use columns::Numbering;
 use definitions::{Reason, Verdict};
 
 // The longest order, in bytes.
@@ -30,13 +32,13 @@ pub fn judge_room(total: usize, at: usize, room: usize) -> Verdict
 }
 
 impl Tables {
-    // As many whole orders as fit, from a position on. The phase that the next order is in is kept from order to order.
+    // As many whole orders as fit, from a position on, by rows or by columns. The phase that the next order is in is kept from order to order.
     // The slice stays whole beside the count of its bytes: what was written is stated of the whole.
-    pub fn write(&self, total: usize, at: usize, out: &mut [u8]) -> Written
+    pub fn write(&self, by: Numbering, total: usize, at: usize, out: &mut [u8]) -> Written
         requires total_value { total ≡ length (plan_of self.now) }
         requires at_le_total { at ≤ total }
-        ensures counts { written_of result ≡ written_counts plan self.now.counts.n self.now.counts.m at (length out.old) }
-        ensures slice { out.new ≡ over (bytes_written plan self.now.counts.n self.now.counts.m at (length out.old)) out.old }
+        ensures counts { written_of result ≡ written_counts (plan_by by plan) self.now.counts.n self.now.counts.m at (length out.old) }
+        ensures slice { out.new ≡ over (bytes_written (plan_by by plan) self.now.counts.n self.now.counts.m at (length out.old)) out.old }
     {
         let mut bytes = 0;
         let mut place = Within {
@@ -45,7 +47,7 @@ impl Tables {
         };
         for next in at..total {
             place = settled(&self.sizes, place);
-            let order = self.order_within(place);
+            let order = by.order(self.counts, self.order_within(place));
             let Some(size) = write_order(out, bytes, order) else {
                 return Written {
                     bytes,
