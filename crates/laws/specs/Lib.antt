@@ -12,6 +12,7 @@ pub mod RunningSum
 pub mod SameAmounts
 pub mod Write
 pub mod Chunks
+pub mod Joined
 pub mod Refusal
 pub mod Verdicts
 pub mod Search
