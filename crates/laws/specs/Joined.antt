@@ -1,21 +1,35 @@
--- Lists of one entry each, one after another: there are as many entries (`joined_length`), each in its place (`joined_entry`).
-use Rattle.std.specs.Prelude.{◌≡◌, refl, ◌⊎◌, ℕ, zero, suc, ◌<◌, [], ◌∷◌, ◌++◌, length, get_or}
-use Rattle.std.proofs.Common.{ap, ◌∙◌, inl, inr, arith, eq-or-lt_of_le, length-append}
-use Rattle.std.proofs.lemmas.List.{get_or_push, get_or_append_left}
+-- Lists of one length, one after another: how long they are (`parts_length`), and where each entry stands (`parts_entry`); and lists of one entry each.
+use Rattle.std.specs.Prelude.{◌≡◌, refl, Bool, ℕ, zero, suc, ◌+◌, ◌*◌, ◌<◌, List, [], ◌∷◌, ◌++◌, length, get_or}
+use Rattle.std.proofs.Common.{sym, ap, ◌∙◌, arith, length-append, get_or-append-add}
+use Rattle.std.proofs.lemmas.List.{get_or_append_left}
+use Rattle.std.proofs.Math.Arith.{digits_lt}
 use Rattle.definitions.specs.Arithmetic.{join_to}
+use Rattle.laws.specs.Tests.{Lt?, less, more, lt?}
 
+module _ {A : Type 0} (n : ℕ) (part : ℕ → List A) (long : (j : ℕ) → length (part j) ≡ n) where
+  pub parts_length : (k : ℕ) → length (join_to k part) ≡ k * n
+  unfolding join_to
+  parts_length zero = omega arith
+  parts_length (suc k) = length-append (join_to k part) (part k) ∙ omega (arith, parts_length k, long k)
+
+  -- entry i of part j
+  pub parts_entry : (d : A) (k j i : ℕ) → j < k → i < n → get_or (join_to k part) (j * n + i) d ≡ get_or (part j) i d
+  unfolding join_to
+  parts_entry d zero j i l h = absurd (omega arith)
+  parts_entry d (suc k) j i l h = go (lt? j k) (λ b. parts_entry d k j i b h)
+    where
+      go : {t : Bool} → Lt? j k t → (j < k → get_or (join_to k part) (j * n + i) d ≡ get_or (part j) i d)
+          → get_or (join_to k part ++ part k) (j * n + i) d ≡ get_or (part j) i d
+      go (less b) ih = get_or_append_left (join_to k part) (part k) d (j * n + i) (omega (arith, parts_length k, digits_lt b h)) ∙ ih b
+      go (more b) ih =
+          let e : j ≡ k = omega arith in
+          rw e (ap (λ (at : ℕ). get_or (join_to k part ++ part k) (at + i) d) (sym (parts_length k)) ∙ get_or-append-add (join_to k part) (part k) i d)
+
+-- of one entry each
 pub joined_length : {A : Type 0} (n : ℕ) (f : ℕ → A) → length (join_to n (λ i. f i ∷ [])) ≡ n
-unfolding join_to
-joined_length zero f = refl
-joined_length (suc n) f = length-append (join_to n (λ i. f i ∷ [])) (f n ∷ []) ∙ omega (arith, joined_length n f)
+joined_length n f = parts_length 1 (λ i. f i ∷ []) (λ j. refl) n ∙ omega arith
 
 pub joined_entry : {A : Type 0} (n : ℕ) (f : ℕ → A) (d : A) (i : ℕ) → i < n → get_or (join_to n (λ i. f i ∷ [])) i d ≡ f i
-unfolding join_to
-joined_entry zero f d i l = absurd (omega arith)
-joined_entry (suc n) f d i l = go (eq-or-lt_of_le l) (joined_entry n f d i)
-  where
-    go : (suc i ≡ suc n) ⊎ (suc i < suc n) → (i < n → get_or (join_to n (λ j. f j ∷ [])) i d ≡ f i) → get_or (join_to n (λ j. f j ∷ []) ++ f n ∷ []) i d ≡ f i
-    go (inl p) ih =
-        let q : n ≡ i = omega arith in
-        get_or_push (join_to n (λ j. f j ∷ [])) (f n) d i (joined_length n f ∙ q) ∙ ap f q
-    go (inr p) ih = get_or_append_left (join_to n (λ j. f j ∷ [])) (f n ∷ []) d i (omega (arith, joined_length n f)) ∙ ih (omega arith)
+joined_entry n f d i l =
+    ap (λ (at : ℕ). get_or (join_to n (λ j. f j ∷ [])) at d) (let e : i ≡ i * 1 + 0 = omega arith in e)
+    ∙ parts_entry 1 (λ j. f j ∷ []) (λ j. refl) d n i 0 l (omega arith)
