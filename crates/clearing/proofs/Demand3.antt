@@ -1,5 +1,5 @@
 -- Demand 3, whole: one list of orders for every two accepted books of equal counts (`demand_3`).
-use Rattle.std.specs.Prelude.{ℕ, ◌≡◌, length, ℤ, pos, ◌≤ℤ◌, refl}
+use Rattle.std.specs.Prelude.{ℕ, ◌≡◌, List, length, ℤ, pos, ◌≤ℤ◌, refl}
 use Rattle.std.proofs.Common.{subst, sym, ap, ◌∙◌, arith}
 use Rattle.definitions.specs.Limits.{cell_count}
 use Rattle.definitions.specs.Book.{Book}
@@ -10,7 +10,7 @@ use Rattle.definitions.specs.Machine.{AllWellFormed}
 use Rattle.definitions.specs.Answers.{Refusal, none, unless}
 use Rattle.definitions.specs.Bytes.{orders_bytes}
 use Rattle.definitions.specs.Calls.{AcceptedBook, seal_refusal, counts_refusal}
-use Rattle.definitions.specs.Outcome.{result_of, plan_run, clear_sheet, clear_count, clear_welfare}
+use Rattle.definitions.specs.Outcome.{Outcome, result_of, plan_run, clear_sheet, clear_count, clear_welfare}
 use Rattle.definitions.specs.RunningSum.{sales_welfare, clear_sales_welfare}
 use Rattle.laws.specs.Refusal.{first_left}
 use Rattle.laws.specs.AcceptedBook.{accepted_sound}
@@ -23,20 +23,26 @@ use Rattle.plan.proofs.Asking.{asked_at_end}
 use Rattle.plan.proofs.Collected.{collected_plan}
 use Rattle.clearing.specs.PlanClears.{plan_outcome}
 use Rattle.plan.proofs.SealedSheet.{sealed_is_sheet}
-use Rattle.clearing.specs.Demand3.{ClearedBy, OnePlan}
+use Rattle.clearing.specs.Demand3.{HoldsPrices, ClearedBy, OnePlan}
 
 module _ (A : Book) (accepted : AcceptedBook A) where
   -- an accepted book is sealed in any sheet of 4,096 cells
   not_refused : {X : Type 0} (given before : X) (cells : ℕ) → cells ≡ cell_count → unless (seal_refusal A cells) given before ≡ given
   not_refused given before cells e = ap (λ (r : Refusal). unless r given before) (ap (seal_refusal A) e ∙ accepted)
 
-  counts : counts_refusal A.n A.m ≡ none
+  pub counts : counts_refusal A.n A.m ≡ none
   unfolding seal_refusal
   counts = first_left (counts_refusal A.n A.m) _ accepted
 
   -- what is given of a sum over the amounts: of the welfare, and of that of the sales
   given_sum : (sum : Book → (ℕ → ℕ) → ℤ) → let left = sum A (result_of A (plan_run plan A)).accepted in unless (seal_refusal A cell_count) left (pos 0) ≡ left
   given_sum sum = not_refused (sum A (result_of A (plan_run plan A)).accepted) (pos 0) cell_count refl
+
+  -- an outcome's prices are those of each best clearing
+  pub prices_held : (sealed s : List ℕ) → Outcome A sealed s → HoldsPrices A s
+  prices_held sealed s outcome c b p l =
+      let same : pool_price A (result_of A s) p ≡ pool_price A c p = price_of_best A accepted (result_of A s) c outcome.best b p l in
+      (outcome.prices p l ∙ ap price_residue same, outcome.hundredths p l ∙ ap hundredths_residue same, outcome.presences p l ∙ ap presence same)
 
   pub plan_orders_of : AllWellFormed (plan A.n A.m)
   plan_orders_of = let sound = accepted_sound A accepted in plan_orders A.n A.m sound.bids sound.pools
@@ -56,9 +62,7 @@ module _ (A : Book) (accepted : AcceptedBook A) where
         welfare_given = λ c b. given_sum welfare ∙ welfare_of_best A accepted (result_of A (plan_run plan A)) c outcome.best b;
         greatest_welfare = λ d f. subst (λ (z : ℤ). welfare A d.accepted ≤ℤ z) (sym (given_sum welfare)) (best_welfare A accepted (result_of A (plan_run plan A)) outcome.best d f);
         sales_given = λ c b. given_sum sales_welfare ∙ sales_of_best A accepted (result_of A (plan_run plan A)) c outcome.best b;
-        prices_given = λ c b p l.
-            let same : pool_price A (result_of A (plan_run plan A)) p ≡ pool_price A c p = price_of_best A accepted (result_of A (plan_run plan A)) c outcome.best b p l in
-            (outcome.prices p l ∙ ap price_residue same, outcome.hundredths p l ∙ ap hundredths_residue same, outcome.presences p l ∙ ap presence same);
+        prices_given = prices_held (sealed_sheet A) (plan_run plan A) outcome;
       }
 
 -- a book is cleared by the plan of another of the same counts

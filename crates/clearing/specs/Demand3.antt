@@ -15,6 +15,13 @@ use Rattle.definitions.specs.RunningSum.{sales_welfare, clear_sales_welfare}
 use Rattle.runner.specs.Runs.{RunsAs}
 use Rattle.plan.specs.Plan.{plan}
 
+-- the prices that a sheet holds are those of each best clearing, whichever flows were chosen (document 02, request 4)
+abbrev pub HoldsPrices : Book → List ℕ → Type 0
+HoldsPrices A s = (c : Clearing) → Best A c → (p : ℕ) → p < A.m
+    → (cell s (price_cell A.n A.m p) ≡ price_residue (pool_price A c p))
+    × (cell s (hundredths_cell A.n A.m p) ≡ hundredths_residue (pool_price A c p))
+    × (cell s (presence_cell A.n A.m p) ≡ presence (pool_price A c p))
+
 -- One list of orders clears book A.
 pub record ClearedBy (orders : List Order) (A : Book) : Type 0 where
   -- it is the plan of A's counts, and what asking at 0 and at each position handed back gives until the plan has ended, which is at its length
@@ -35,11 +42,8 @@ pub record ClearedBy (orders : List Order) (A : Book) : Type 0 where
   pub greatest_welfare : (d : Clearing) → Feasible A d → welfare A d.accepted ≤ℤ clear_welfare plan A cell_count
   -- the welfare of the sales alone that is given is that of each best clearing (document 02, request 3)
   pub sales_given : (c : Clearing) → Best A c → clear_sales_welfare plan A cell_count ≡ sales_welfare A c.accepted
-  -- the prices left are those of each best clearing, whichever flows were chosen (document 02, request 4)
-  pub prices_given : (c : Clearing) → Best A c → (p : ℕ) → p < A.m
-      → (cell (run_of orders (sealed_sheet A)) (price_cell A.n A.m p) ≡ price_residue (pool_price A c p))
-      × (cell (run_of orders (sealed_sheet A)) (hundredths_cell A.n A.m p) ≡ hundredths_residue (pool_price A c p))
-      × (cell (run_of orders (sealed_sheet A)) (presence_cell A.n A.m p) ≡ presence (pool_price A c p))
+  -- the prices left are those of each best clearing
+  pub prices_given : HoldsPrices A (run_of orders (sealed_sheet A))
 
 -- "Take every two books A and B that sealing accepts, with equal bid counts and equal pool counts. .. the plan is the same list of orders for
 -- both, byte for byte. .. and reports the same count for both. .. for n bids and m pools it is at most n × (100 × n + 40 × (m+1)^6) + 10,000", in

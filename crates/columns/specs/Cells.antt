@@ -12,7 +12,7 @@ unfoldable pub row_cell : (n c : ℕ) → ℕ
 row_cell n c = cond (ltb c (bid_numbers * n)) (bid_numbers * (c % n) + column_of (c / n)) c
 
 -- a bid's numbers have as many columns
-column_small : (place : ℕ) → column_of place < bid_numbers
+pub column_small : (place : ℕ) → column_of place < bid_numbers
 column_small zero = omega arith
 column_small (suc zero) = omega arith
 column_small (suc (suc zero)) = omega arith

@@ -18,6 +18,12 @@ pub record Renumbering (cells : ℕ) (new old : ℕ → ℕ) : Type 0 where
   pub inside : (c : ℕ) → c < cells → new c < cells
   pub back_inside : (c : ℕ) → c < cells → old c < cells
 
+-- two sheets of some length that hold the same values under new numbers
+pub record Alike (cells : ℕ) (new : ℕ → ℕ) (s t : List ℕ) : Type 0 where
+  pub first : length s ≡ cells
+  pub second : length t ≡ cells
+  pub same : SameUnder new s t
+
 -- an order keeps the sheet's length, and so do some
 step_length : (s : List ℕ) (o : Order) → length (step_of s o) ≡ length s
 step_length s o = ap length (one_store s o) ∙ length-set s (parts_of o).d _
@@ -40,15 +46,9 @@ module _ {cells : ℕ} {new old : ℕ → ℕ} (r : Renumbering cells new old) w
       go (less l) = omega (arith, r.undone c, r.back_inside (new c) l)
       go (more l) = l
 
-  -- two sheets of this length that hold the same values
-  pub record Alike (s t : List ℕ) : Type 0 where
-    pub first : length s ≡ cells
-    pub second : length t ≡ cells
-    pub same : SameUnder new s t
-
-  module _ (s t : List ℕ) (alike : Alike s t) where
+  module _ (s t : List ℕ) (alike : Alike cells new s t) where
     -- one value written in both
-    written_alike : (d v : ℕ) → Alike (set s d v) (set t (new d) v)
+    written_alike : (d v : ℕ) → Alike cells new (set s d v) (set t (new d) v)
     written_alike d v = record {
       first = length-set s d v ∙ alike.first;
       second = length-set t (new d) v ∙ alike.second;
@@ -63,7 +63,7 @@ module _ {cells : ℕ} {new old : ℕ → ℕ} (r : Renumbering cells new old) w
         go c (no e) l = get_or-set_other t (new d) (new c) v 0 (λ q. e (apart c d q)) ∙ alike.same c ∙ sym (get_or-set_other s d c v 0 e)
 
     -- one order: the cells that it reads hold the same
-    step_alike : (o : Order) → Alike (step_of s o) (step_of t (renumbered new o))
+    step_alike : (o : Order) → Alike cells new (step_of s o) (step_of t (renumbered new o))
     step_alike (Constant d k) = written_alike d k
     step_alike (Sum d a b) = rw (alike.same a, alike.same b) (written_alike d (plus (cell s a) (cell s b)))
     step_alike (Difference d a b) = rw (alike.same a, alike.same b) (written_alike d (minus (cell s a) (cell s b)))
@@ -72,7 +72,7 @@ module _ {cells : ℕ} {new old : ℕ → ℕ} (r : Renumbering cells new old) w
     step_alike (Equal d a b) = rw (alike.same a, alike.same b) (written_alike d (same_as (cell s a) (cell s b)))
 
   -- and any orders
-  pub run_renumbered : (os : List Order) (s t : List ℕ) → Alike s t → Alike (run_of os s) (run_of (map (renumbered new) os) t)
+  pub run_renumbered : (os : List Order) (s t : List ℕ) → Alike cells new s t → Alike cells new (run_of os s) (run_of (map (renumbered new) os) t)
   unfolding run_of
   run_renumbered [] s t alike = alike
   run_renumbered (o ∷ os) s t alike = run_renumbered os (step_of s o) (step_of t (renumbered new o)) (step_alike s t alike o)

@@ -44,7 +44,7 @@ module _ (B : Book) where
       ∙ get_or-map residue B.bids k (pos 0)
 
   -- behind the bids
-  sealed_past : (k : ℕ) → cell (sealed_sheet B) (length B.bids + k) ≡ cell (capacity_part ++ zero_part) k
+  pub sealed_past : (k : ℕ) → cell (sealed_sheet B) (length B.bids + k) ≡ cell (capacity_part ++ zero_part) k
   sealed_past k =
       ap (λ (l : List ℕ). cell l (length B.bids + k)) parts
       ∙ ap (λ (n : ℕ). get_or (bid_part ++ (capacity_part ++ zero_part)) (n + k) 0) (sym (length-map B.bids residue)) ∙ get_or-append-add bid_part (capacity_part ++ zero_part) k 0
