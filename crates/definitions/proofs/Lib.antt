@@ -5,6 +5,7 @@ pub mod ClearingFacts
 pub mod PoolPriceFacts
 pub mod OrderFacts
 pub mod PlanFacts
+pub mod ColumnFacts
 pub mod OutcomeFacts
 pub mod SettleFacts
 pub mod ViewFacts
