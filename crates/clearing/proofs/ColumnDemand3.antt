@@ -1,6 +1,6 @@
 -- What two books of equal counts share of the column plan (`column_demand_3`), by way of the row plan: after every order the two sheets hold the same values
 -- under the renumbering, so what the one leaves the other does.
-use Rattle.std.specs.Prelude.{◌≡◌, refl, ℕ, ◌*◌, ◌≤◌, ◌<◌, List, map, length, take, drop}
+use Rattle.std.specs.Prelude.{◌≡◌, refl, ℕ, ◌*◌, ◌≤◌, ◌<◌, List, map, length, take, drop, ℤ}
 use Rattle.std.proofs.Common.{sym, ap, ◌∙◌, subst, arith, ext_get_or, length-drop, get_or-drop}
 use mathlib.Core.Path.{fun_ext}
 use Rattle.definitions.specs.declared.Order.{Order}
@@ -12,10 +12,12 @@ use Rattle.definitions.specs.Clearing.{Clearing, Best, Permitted}
 use Rattle.definitions.specs.PoolPrice.{pool_price, price_residue, hundredths_residue, presence}
 use Rattle.definitions.specs.Machine.{IsSheet, cell, run_of, AllWellFormed}
 use Rattle.definitions.specs.Bytes.{orders_bytes}
-use Rattle.definitions.specs.Calls.{AcceptedBook, opened_results}
+use Rattle.definitions.specs.Calls.{AcceptedBook, opened_results, open_refusal, open_slice}
 use Rattle.definitions.specs.Columns.{column_cell, column_plan, column_sealed_sheet, SameUnder}
 use Rattle.definitions.specs.Outcome.{Outcome, result_of, plan_run}
 use Rattle.laws.specs.AcceptedBook.{Sound, accepted_sound}
+use Rattle.judging.specs.Cells.{sheet_accepted}
+use Rattle.machine.specs.Run.{run_sheet_lem}
 use Rattle.runner.specs.Runs.{orders_bytes_run}
 use Rattle.columns.specs.declared.Numbering.TheVariants.{Columns}
 use Rattle.columns.specs.Renumbering.{Alike, run_renumbered}
@@ -113,6 +115,14 @@ module _ (A : Book) (accepted : AcceptedBook A) where
   unfolding opened_results
   same_opened = ap (λ (cells : List ℕ). map reading (take (result_count A.n A.m) cells)) result_cells
 
+  -- neither sheet is refused by opening for a cell, so whatever slice is lent holds the same after it
+  same_slice : (results : List ℤ) → open_slice A.n A.m by_columns results ≡ open_slice A.n A.m by_rows results
+  unfolding open_slice open_refusal
+  same_slice results =
+      let rows = run_sheet_lem (plan A.n A.m) (sealed_sheet A) (sealed_is_sheet A sound) (plan_orders_of A accepted) in
+      let columns = run_sheet_lem orders (column_sealed_sheet A) column_sealed_is_sheet orders_well_formed in
+      rw (rows.cells, columns.cells, sheet_accepted by_rows rows, sheet_accepted by_columns columns, same_opened) refl
+
   pub cleared_by_columns : ClearedByColumns orders A
   unfolding column_plan plan_run
   cleared_by_columns =
@@ -127,7 +137,7 @@ module _ (A : Book) (accepted : AcceptedBook A) where
         prices_given = prices_held A accepted (column_sealed_sheet A) by_columns outcome;
         by_bytes = orders_bytes_run (column_sealed_sheet A) orders column_sealed_is_sheet orders_well_formed;
         sheet = λ lent e. subst (λ (s : List ℕ). SameUnder (column_cell A.n) s by_columns) (sym (cleared.sheet lent e)) left_alike.same;
-        opened = λ lent e. same_opened ∙ ap (opened_results A.n A.m) (sym (cleared.sheet lent e));
+        opened = λ lent results e. same_slice results ∙ ap (λ (s : List ℕ). open_slice A.n A.m s results) (sym (cleared.sheet lent e));
         count = cleared.count ∙ sym as_long;
         welfare_given = cleared.welfare_given (result_of A by_columns) outcome.best;
       }

@@ -1,7 +1,7 @@
 -- What two books of equal counts share of the column plan, as one statement like demand 3's (document 02, request 6); that it holds for every two accepted
 -- books is `column_demand_3`, in proofs/ColumnDemand3. Clearing and opening have no column form: what clearing leaves, the column plan leaves under the
 -- renumbering, and the results, which stay in place, are opened as they are.
-use Rattle.std.specs.Prelude.{ℕ, ◌≤◌, ◌<◌, ◌≡◌, List, length, take}
+use Rattle.std.specs.Prelude.{ℕ, ◌≤◌, ◌<◌, ◌≡◌, List, length, take, ℤ}
 use Rattle.definitions.specs.declared.Order.{Order}
 use Rattle.definitions.specs.Limits.{cell_count}
 use Rattle.definitions.specs.Book.{Book}
@@ -9,7 +9,7 @@ use Rattle.definitions.specs.Sheet.{sealed_sheet}
 use Rattle.definitions.specs.Clearing.{welfare}
 use Rattle.definitions.specs.Machine.{AllWellFormed, run_of}
 use Rattle.definitions.specs.Bytes.{orders_bytes}
-use Rattle.definitions.specs.Calls.{opened_results}
+use Rattle.definitions.specs.Calls.{open_slice}
 use Rattle.definitions.specs.Plan.{asked, ended, collected}
 use Rattle.definitions.specs.Columns.{column_cell, column_plan, column_sealed_sheet, SameUnder}
 use Rattle.definitions.specs.Outcome.{Outcome, result_of, order_limit, clear_sheet, clear_count, clear_welfare}
@@ -31,10 +31,10 @@ pub record ClearedByColumns (orders : List Order) (A : Book) : Type 0 where
   pub prices_given : HoldsPrices A (run_of orders (column_sealed_sheet A))
   -- the runner accepts the list's bytes on A's sheet sealed by columns, leaves that run's sheet and gives the list's length
   pub by_bytes : RunsAs (column_sealed_sheet A) orders
-  -- clearing leaves the same values by rows, and the same results are opened
+  -- clearing leaves the same values by rows, and opening treats both sheets alike
   pub sheet : (lent : List ℕ) → length lent ≡ cell_count → SameUnder (column_cell A.n) (clear_sheet plan A lent) (run_of orders (column_sealed_sheet A))
-  pub opened : (lent : List ℕ) → length lent ≡ cell_count
-      → opened_results A.n A.m (run_of orders (column_sealed_sheet A)) ≡ opened_results A.n A.m (clear_sheet plan A lent)
+  pub opened : (lent : List ℕ) (results : List ℤ) → length lent ≡ cell_count
+      → open_slice A.n A.m (run_of orders (column_sealed_sheet A)) results ≡ open_slice A.n A.m (clear_sheet plan A lent) results
   -- clearing's count is this list's length too, and its welfare that of the amounts left
   pub count : clear_count plan A cell_count ≡ length orders
   pub welfare_given : clear_welfare plan A cell_count ≡ welfare A (result_of A (run_of orders (column_sealed_sheet A))).accepted
