@@ -1,4 +1,4 @@
--- A plan by rows or by columns: the column plan is as long as the row plan (`plan_by_length`), has at each position the row plan's order renumbered
+-- A plan by rows or by columns: the column plan is as long as the row plan (`plan_by_length`, `total_by`), has at each position its order renumbered
 -- (`plan_by_entry`), is refused as it is (`ask_refusal_by`, `write_refusal_by`, `bytes_refusal_by`), and its orders are the machine's
 -- (`plan_by_well_formed`).
 use Rattle.std.specs.Prelude.{ℕ, ◌*◌, ◌≤◌, ◌<◌, ◌≡◌, refl, cond, List, [], ◌∷◌, map, ltb, eqb, length, get_or}
@@ -8,9 +8,9 @@ use Rattle.definitions.specs.declared.Order.{Order}
 use Rattle.definitions.specs.declared.Order.TheVariants.{Constant, Sum, Difference, Product, Less, Equal}
 use Rattle.definitions.specs.Limits.{cell_count, bid_numbers}
 use Rattle.definitions.specs.Machine.{ThreeCells, WellFormed, AllWellFormed}
-use Rattle.definitions.specs.Answers.{Refusal, none, refuse, first}
+use Rattle.definitions.specs.Answers.{Refusal, none, refuse, first, unless}
 use Rattle.definitions.specs.Calls.{counts_refusal, length_refusal}
-use Rattle.definitions.specs.Plan.{Plan, room_refusal, counts_size, position_refusal, ask_refusal, write_refusal, bytes_refusal}
+use Rattle.definitions.specs.Plan.{Plan, total, room_refusal, counts_size, position_refusal, ask_refusal, write_refusal, bytes_refusal}
 use Rattle.definitions.specs.Columns.{column_cell, renumbered, column_plan}
 use Rattle.columns.specs.declared.Numbering.{Numbering}
 use Rattle.columns.specs.declared.Numbering.TheVariants.{Rows, Columns}
@@ -39,6 +39,11 @@ module _ (P : Plan) (n m : ℕ) where
   unfolding column_plan
   plan_by_entry Rows k l = refl
   plan_by_entry Columns k l = get_or-map (renumbered (column_cell n)) (P n m) k (Constant 0 0) (Constant 0 0) l
+
+  -- the total is one number
+  pub total_by : (by : Numbering) → total (plan_by by P) n m ≡ total P n m
+  unfolding total
+  total_by by = ap (λ (orders : ℕ). unless (counts_refusal n m) orders 0) (plan_by_length by)
 
   -- ---- "with the same refusals"
 
