@@ -1,0 +1,2 @@
+-- The numbers of a bid by their places.
+pub mod Numbers
