@@ -1,4 +1,4 @@
--- What the proofs of the two calls share, and the host's walk by computation.
+-- What the proofs of the calls share, and the host's walk by computation.
 pub mod Numbers
 pub mod WalkFacts
 pub mod ReadBack

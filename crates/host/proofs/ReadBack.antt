@@ -1,17 +1,18 @@
 -- Bytes with the lowest first hold the number that they were made of (`read_back`), so the host can read the total from its 8 bytes
 -- (`total_read_back`), and the counts and the next position from their 24 (`counts_read_back`), whatever slices were lent.
-use Rattle.std.proofs.Common.{sym, ap, ◌∙◌, arith, le_refl, add-le-add, mul-le-mul, mul-le-mul_left, take_at, drop_at, take_all, drop-drop, ℕ, zero, suc, ◌+◌, ◌*◌, ◌/◌, ◌≤◌, ◌<◌, ◌≡◌, refl, List, ◌++◌, length, take, drop}
-use Rattle.std.proofs.Math.Nat.{pow-le-pow_left}
+use Rattle.std.proofs.Common.{sym, ap, ◌∙◌, arith, take_at, drop_at, take_all, drop-drop, ℕ, zero, suc, ◌*◌, ◌/◌, ◌≤◌, ◌<◌, ◌≡◌, refl, List, ◌++◌, length, take, drop}
 use Rattle.definitions.specs.Limits.{bid_limit, pool_limit}
 use Rattle.definitions.specs.Answers.{none}
 use Rattle.definitions.specs.Calls.{counts_refusal}
 use Rattle.definitions.specs.Outcome.{order_limit}
-use Rattle.definitions.specs.Plan.{lowest_first, Written, written_counts, count_bytes, total_refusal, total_slice, bytes_refusal, counts_slice, longest_order, number_size}
+use Rattle.definitions.specs.Plan.{Plan, lowest_first, Written, written_counts, count_bytes, total_refusal, total_slice, bytes_refusal, counts_slice, longest_order, number_size}
 use Rattle.laws.specs.Sizes.{counted}
+use Rattle.columns.specs.declared.Numbering.{Numbering}
+use Rattle.columns.specs.Plans.{plan_by, plan_by_length}
 use Rattle.plan.specs.Plan.{plan}
-use Rattle.plan.proofs.PlanOrders.{plan_length_limit}
+use Rattle.plan.proofs.PlanOrders.{length_limit}
 use Rattle.orders.specs.Calls.{write_within}
-use Rattle.walk.proofs.Sequence.{orders_within, bytes_within}
+use Rattle.walk.proofs.Sequence.{orders_within, bytes_within, machine_orders}
 use Rattle.host.specs.Calls.{total_counts, total_given, bytes_writing, counts_given}
 use Rattle.host.specs.Numbers.{held, bytes_limit, lowest_length, counts_held}
 
@@ -20,27 +21,14 @@ unfolding held bytes_limit lowest_first
 read_back zero v h = omega arith
 read_back (suc k) v h = omega (arith, read_back k (v / 256) (omega arith))
 
--- ---- the limit on the plan's orders grows with the counts, and at the greatest counts 8 bytes hold 8 times as much
-
-limit_grows : (n m a b : ℕ) → n ≤ a → m ≤ b → order_limit n m ≤ order_limit a b
-limit_grows n m a b h k =
-    let pools : m + 1 ≤ b + 1 = omega arith in
-    add-le-add (mul-le-mul h (add-le-add (mul-le-mul_left _ h) (mul-le-mul_left _ (pow-le-pow_left pools _)))) (le_refl _)
+-- ---- at the greatest counts 8 bytes hold 8 times the limit on the plan's orders, so they hold the plan's length and that of its bytes
 
 greatest_held : longest_order * order_limit bid_limit pool_limit < bytes_limit number_size
 unfolding bytes_limit
 greatest_held = omega arith
 
--- so 8 bytes hold the plan's length, and the length of its bytes
 plan_held : (n m v : ℕ) → counts_refusal n m ≡ none → v ≤ longest_order * length (plan n m) → v < bytes_limit number_size
-plan_held n m v counts h =
-    let limits = counted n m counts in
-    omega (
-      arith,
-      plan_length_limit n m limits.bids limits.pools.least limits.pools.most,
-      limit_grows n m bid_limit pool_limit limits.bids limits.pools.most,
-      greatest_held,
-    )
+plan_held n m v counts h = omega (arith, length_limit n m (counted n m counts), greatest_held)
 
 -- ---- the total
 
@@ -71,15 +59,18 @@ three_held w a b c =
     (ap held parts.1 ∙ read_back number_size w.orders b)
     (ap held parts.2 ∙ read_back number_size w.next c)
 
--- the slice of an accepted call for the plan's bytes holds the counts of bytes and orders and the next position
-pub counts_read_back : (n m at : ℕ) (bytes out : List ℕ) → bytes_refusal plan n m at (length bytes) (length out) ≡ none
-    → counts_held (counts_slice plan n m at (length bytes) out) ≡ written_counts plan n m at (length bytes)
+-- the slice of an accepted call for a plan's bytes holds the counts of bytes and orders and the next position
+pub counts_read_back : (by : Numbering) (n m at : ℕ) (bytes out : List ℕ) → bytes_refusal (plan_by by plan) n m at (length bytes) (length out) ≡ none
+    → counts_held (counts_slice (plan_by by plan) n m at (length bytes) out) ≡ written_counts (plan_by by plan) n m at (length bytes)
 unfolding written_counts
-counts_read_back n m at bytes out accepted =
-    let within = write_within plan n m at (length bytes) (bytes_writing plan n m at bytes out accepted) in
-    let few = orders_within n m within.counts at (length bytes) within.position in
-    ap counts_held (counts_given plan n m at bytes out accepted)
-    ∙ three_held (written_counts plan n m at (length bytes))
-    (plan_held n m _ within.counts (bytes_within n m within.counts at (length bytes)))
-    (plan_held n m _ within.counts (omega arith))
-    (plan_held n m _ within.counts (omega arith))
+counts_read_back by n m at bytes out accepted =
+    let P : Plan = plan_by by plan in
+    let within = write_within P n m at (length bytes) (bytes_writing P n m at bytes out accepted) in
+    let machine = machine_orders by n m within.counts in
+    let as_long = plan_by_length plan n m by in
+    let few = orders_within P n m within.counts machine at (length bytes) within.position in
+    ap counts_held (counts_given P n m at bytes out accepted)
+    ∙ three_held (written_counts P n m at (length bytes))
+    (plan_held n m _ within.counts (omega (arith, as_long, bytes_within P n m within.counts machine at (length bytes))))
+    (plan_held n m _ within.counts (omega (arith, as_long)))
+    (plan_held n m _ within.counts (omega (arith, as_long)))

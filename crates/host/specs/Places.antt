@@ -1,4 +1,4 @@
--- "(the place is always 0 there)": whatever the two calls of the C host are refused for, the place is 0, so the number says all.
+-- "(the place is always 0 there)": whatever the calls of the C host are refused for, the place is 0, so the number says all.
 use Rattle.std.specs.Prelude.{ℕ, ◌≡◌, refl, Bool, true, false, cond, ◌||◌, ltb, eqb, length}
 use Rattle.definitions.specs.Limits.{bid_limit, pool_limit}
 use Rattle.definitions.specs.Answers.{Refusal, none, refuse, place_of, first}

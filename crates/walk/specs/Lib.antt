@@ -1,3 +1,3 @@
--- A host's walk through the plan from call to call, and what it sends.
+-- A host's walk through a plan from call to call, and what it sends.
 pub mod Walk
 pub mod Sequence

@@ -1,4 +1,4 @@
--- A host's walk through the plan: one call after another, each from the position that the one before gave, until a call gives no orders.
+-- A host's walk through a plan: one call after another, each from the position that the one before gave, until a call gives no orders.
 use Rattle.std.specs.Prelude.{ℕ, ◌≤◌, Bool, true, false, cond, ◌&&◌, List, [], ◌∷◌, ◌++◌, ltb, eqb, length, take}
 use Rattle.definitions.specs.Answers.{number_of}
 use Rattle.definitions.specs.Plan.{Plan, Written, write_refusal, write_counts, write_slice, longest_order}
