@@ -1,16 +1,19 @@
-// The two calls of the C host, on numbers and byte slices: the plan's total, and its bytes from a position on.
+// The calls of the C host, on numbers and byte slices: the plan's total, and its bytes from a position on, by rows or by columns.
 // Each returns the refusal's number, 0 for none, and gives its numbers in a further slice, 8 bytes each, lowest byte first.
 #![tactic(auto)]
 
 ghost use Rattle.std.specs.Prelude.{◌≡◌, length};
 ghost use Rattle.definitions.specs.Answers.{number_of, refusal_of};
 ghost use Rattle.definitions.specs.Plan.{lowest_first, count_bytes, number_size, counts_size, total_refusal, total_slice, bytes_refusal, bytes_slice, counts_slice};
+ghost use Rattle.definitions.specs.Columns.{column_plan};
 ghost use Rattle.plan.specs.Plan.{plan};
+ghost use Rattle.columns.specs.Plans.{plan_by};
 ghost use Rattle.orders.specs.Answer.{written_of};
 
+use columns::Numbering;
 use definitions::{Reason, Verdict};
 use judging::judge_counts;
-use orders::{Plan, Written, write_plan};
+use orders::{Plan, Written, write_by};
 
 // How many bytes one number takes, and the writer's three.
 const NUMBER_BYTES: usize = 8;
@@ -62,16 +65,23 @@ fn give_total(n: usize, m: usize, out: &mut [u8]) -> Verdict
 
 // 1, 2, 3 are judged here, 13 and 14 by the writer.
 #[tactic(auto, unfolding(definitions::specs::Plan::bytes_refusal, definitions::specs::Plan::bytes_slice, definitions::specs::Plan::counts_slice, definitions::specs::Plan::write_refusal, definitions::specs::Plan::ask_refusal, definitions::specs::Plan::write_slice, definitions::specs::Plan::write_counts))]
-fn give_bytes(n: usize, m: usize, position: usize, bytes: &mut [u8], out: &mut [u8]) -> Verdict
-    ensures refusal { refusal_of result ≡ bytes_refusal plan n m position (length bytes.old) (length out.old) }
-    ensures bytes { bytes.new ≡ bytes_slice plan n m position bytes.old (length out.old) }
-    ensures counts { out.new ≡ counts_slice plan n m position (length bytes.old) out.old }
+fn give_bytes(
+    by: Numbering,
+    n: usize,
+    m: usize,
+    position: usize,
+    bytes: &mut [u8],
+    out: &mut [u8],
+) -> Verdict
+    ensures refusal { refusal_of result ≡ bytes_refusal (plan_by by plan) n m position (length bytes.old) (length out.old) }
+    ensures bytes { bytes.new ≡ bytes_slice (plan_by by plan) n m position bytes.old (length out.old) }
+    ensures counts { out.new ≡ counts_slice (plan_by by plan) n m position (length bytes.old) out.old }
 {
     judge_counts(n, m)?;
     if out.len() != COUNTS_BYTES {
         return Err(Reason::Length);
     }
-    let written = write_plan(n, m, position, bytes)?;
+    let written = write_by(by, n, m, position, bytes)?;
     put_counts(out, written);
     Ok(())
 }
@@ -92,5 +102,35 @@ pub extern "C" fn plan_bytes(n: u64, m: u64, position: u64, bytes: &mut [u8], ou
     ensures bytes { bytes.new ≡ bytes_slice plan n m position bytes.old (length out.old) }
     ensures counts { out.new ≡ counts_slice plan n m position (length bytes.old) out.old }
 {
-    returned(give_bytes(n as usize, m as usize, position as usize, bytes, out))
+    returned(give_bytes(
+        Numbering::Rows,
+        n as usize,
+        m as usize,
+        position as usize,
+        bytes,
+        out,
+    ))
+}
+
+// The same of the column plan.
+#[unsafe(no_mangle)]
+pub extern "C" fn column_plan_bytes(
+    n: u64,
+    m: u64,
+    position: u64,
+    bytes: &mut [u8],
+    out: &mut [u8],
+) -> u32
+    ensures refusal { result ≡ number_of (bytes_refusal (column_plan plan) n m position (length bytes.old) (length out.old)) }
+    ensures bytes { bytes.new ≡ bytes_slice (column_plan plan) n m position bytes.old (length out.old) }
+    ensures counts { out.new ≡ counts_slice (column_plan plan) n m position (length bytes.old) out.old }
+{
+    returned(give_bytes(
+        Numbering::Columns,
+        n as usize,
+        m as usize,
+        position as usize,
+        bytes,
+        out,
+    ))
 }
