@@ -244,4 +244,4 @@ module _ (P : Plan) (n m : ℕ) (counts : counts_refusal n m ≡ none) (machine 
 pub machine_orders : (by : Numbering) (n m : ℕ) → counts_refusal n m ≡ none → AllWellFormed (plan_by by plan n m)
 machine_orders by n m counts =
     let limits = counted n m counts in
-    plan_by_well_formed by plan n m (omega (arith, limits.bids)) (plan_orders n m limits.bids limits.pools.most)
+    plan_by_well_formed by plan n m (omega arith) (plan_orders n m limits.bids limits.pools.most)

@@ -4,6 +4,7 @@ use Rattle.definitions.specs.declared.Order.{Order}
 use Rattle.definitions.specs.declared.Order.TheVariants.{Constant, Sum}
 use Rattle.definitions.specs.Bytes.{groups, number_bytes, order_bytes, orders_bytes}
 use Rattle.definitions.specs.Plan.{ask_refusal, fitting, write_refusal, orders_written, bytes_written, written_counts, write_counts, write_slice}
+use Rattle.definitions.specs.Columns.{column_cell, column_plan}
 use Rattle.walk.specs.Walk.{Reply, walk, writer_reply}
 
 -- orders of 8, 4 and 3 bytes
@@ -32,6 +33,12 @@ walks : walk (writer_reply three 0 1) (slice 11 ∷ slice 8 ∷ slice 8 ∷ slic
     ∷ []
 unfolding walk write_counts written_counts write_refusal ask_refusal write_slice bytes_written orders_written fitting orders_bytes order_bytes number_bytes groups
 walks = refl
+
+-- through the column plan of the three, for one bid, it goes as far and sends other bytes: cells 2 and 3 have changed places
+walks_by_columns : walk (writer_reply (column_plan three) 1 1) (slice 11 ∷ slice 8 ∷ slice 8 ∷ []) 0
+    ≡ record { sent = first_bytes ++ (1 ∷ 1 ∷ 3 ∷ 2 ∷ 0 ∷ 5 ∷ 0 ∷ []); position = 3; refusal = 0; stopped = true }
+unfolding walk column_plan column_cell write_counts written_counts write_refusal ask_refusal write_slice bytes_written orders_written fitting orders_bytes order_bytes number_bytes groups
+walks_by_columns = refl
 
 -- it stops at a call that is refused, whatever the call's counts are
 refused_call : Reply
