@@ -16,56 +16,42 @@ use Rattle.laws.specs.Tests.{Lt?, less, more, lt?}
 use Rattle.laws.specs.Joined.{parts_length, parts_entry, joined_length, joined_entry}
 use Rattle.laws.specs.AcceptedBook.{Sound}
 use Rattle.columns.specs.Renumbering.{Alike, run_renumbered}
-use Rattle.columns.specs.Cells.{column_small, column_of_bid, column_kept, columns_renumber}
+use Rattle.sealing.specs.Numbers.{number_at, number_held}
+use Rattle.columns.specs.Cells.{column_small, column_twice, column_of_bid, column_kept, columns_renumber}
 use Rattle.plan.proofs.SealedSheet.{sealed_length, sealed_bid, sealed_past}
 
--- the number of a bid that stands in each column
-number_in : Book → (column i : ℕ) → ℤ
-number_in B zero = pool B
-number_in B (suc zero) = whole_price B
-number_in B (suc (suc zero)) = hundredths B
-number_in B (suc (suc (suc k))) = quantity B
-
 module _ (B : Book) (sound : Sound B) where
+  -- the four columns: two have changed places, so the place of a column's number is the column of that place
   abbrev columns : List ℕ
-  columns = join_to bid_numbers (λ k. column (number_in B k) B.n)
+  columns = join_to bid_numbers (λ k. column (number_at B (column_of k)) B.n)
 
   abbrev behind : List ℕ
   behind = map residue B.capacities ++ replicate (cell_count - (length B.bids + length B.capacities)) 0
 
   -- the columns, one after another, and what stands behind them
   parts : column_sealed_sheet B ≡ columns ++ behind
-  unfolding column_sealed_sheet join_to number_in
+  unfolding column_sealed_sheet join_to
   parts = append_assoc columns (map residue B.capacities) (replicate (cell_count - (length B.bids + length B.capacities)) 0)
 
-  column_long : (k : ℕ) → length (column (number_in B k) B.n) ≡ B.n
+  column_long : (k : ℕ) → length (column (number_at B (column_of k)) B.n) ≡ B.n
   column_long k = joined_length B.n _
 
   columns_long : length columns ≡ bid_numbers * B.n
   columns_long = parts_length B.n _ column_long bid_numbers
 
   -- number i of a column
-  column_entry : (k i : ℕ) → k < bid_numbers → i < B.n → cell (column_sealed_sheet B) (k * B.n + i) ≡ residue (number_in B k i)
+  column_entry : (k i : ℕ) → k < bid_numbers → i < B.n → cell (column_sealed_sheet B) (k * B.n + i) ≡ residue (number_at B (column_of k) i)
   column_entry k i l h =
       ap (λ (s : List ℕ). cell s (k * B.n + i)) parts
       ∙ get_or-append columns behind 0 (k * B.n + i) (omega (arith, columns_long, digits_lt l h))
       ∙ parts_entry B.n _ column_long 0 bid_numbers k i l h
       ∙ joined_entry B.n _ 0 i h
 
-  -- by rows it stands at the place whose column that is
-  row_number : (i place : ℕ) → place < bid_numbers → get_or B.bids (bid_numbers * i + place) (pos 0) ≡ number_in B (column_of place) i
-  unfolding number_in
-  row_number i zero h = ap (λ (at : ℕ). get_or B.bids at (pos 0)) (let e : bid_numbers * i + 0 ≡ bid_numbers * i = omega arith in e)
-  row_number i (suc zero) h = refl
-  row_number i (suc (suc zero)) h = refl
-  row_number i (suc (suc (suc zero))) h = refl
-  row_number i (suc (suc (suc (suc place)))) h = absurd (omega arith)
-
   bid_cell : (i place : ℕ) → i < B.n → place < bid_numbers → cell (column_sealed_sheet B) (column_cell B.n (bid_numbers * i + place)) ≡ cell (sealed_sheet B) (bid_numbers * i + place)
   bid_cell i place l h =
       ap (cell (column_sealed_sheet B)) (column_of_bid B.n i place l h)
       ∙ column_entry (column_of place) i (column_small place) l
-      ∙ ap residue (sym (row_number i place h))
+      ∙ ap residue (ap (λ (j : ℕ). number_at B j i) (column_twice place h) ∙ sym (number_held B place i))
       ∙ sym (sealed_bid B (bid_numbers * i + place) (omega (arith, sound.bid_table)))
 
   -- behind the bids both are the same

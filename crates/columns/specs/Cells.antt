@@ -19,7 +19,7 @@ column_small (suc (suc zero)) = omega arith
 column_small (suc (suc (suc place))) = omega arith
 
 -- two columns change places, so the column of the column is the place again
-column_twice : (place : ℕ) → place < bid_numbers → column_of (column_of place) ≡ place
+pub column_twice : (place : ℕ) → place < bid_numbers → column_of (column_of place) ≡ place
 column_twice zero l = refl
 column_twice (suc zero) l = refl
 column_twice (suc (suc zero)) l = refl
