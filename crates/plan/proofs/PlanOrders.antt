@@ -1,17 +1,16 @@
--- The plan's orders are the machine's, each (`plan_well_formed`) and all (`plan_orders`), and not too many (`plan_length_limit`, `total_limit`).
-use Rattle.std.specs.Prelude.{ℕ, ◌+◌, ◌*◌, ◌^◌, ◌≤◌, ◌<◌, ◌≡◌, refl, List, [], ◌∷◌, length, get_or}
+-- The plan's orders are the machine's (`plan_orders`) and not too many (`plan_length_limit`, `total_limit`).
+use Rattle.std.specs.Prelude.{ℕ, ◌+◌, ◌*◌, ◌^◌, ◌≤◌, ◌<◌, ◌≡◌, refl, List, [], ◌∷◌, length}
 use Rattle.std.proofs.Common.{mul-le-mul, arith}
 use Rattle.std.proofs.Math.Nat.{pow-le-pow_left}
 use Rattle.definitions.specs.declared.Order.{Order}
-use Rattle.definitions.specs.declared.Order.TheVariants.{Constant}
 use Rattle.definitions.specs.Limits.{bid_limit, pool_limit}
-use Rattle.definitions.specs.Machine.{WellFormed, AllWellFormed}
+use Rattle.definitions.specs.Machine.{AllWellFormed}
 use Rattle.definitions.specs.Outcome.{order_limit}
 use Rattle.definitions.specs.Answers.{Refusal, none, refuse, unless}
 use Rattle.definitions.specs.Calls.{counts_refusal}
 use Rattle.definitions.specs.Plan.{total}
 use Rattle.laws.specs.Sizes.{Counts, counted}
-use Rattle.plan.specs.Entries.{All, all_at}
+use Rattle.plan.specs.Entries.{All}
 use Rattle.plan.specs.Plan.{plan, WritesNoInput}
 use Rattle.plan.proofs.PlanFacts.{plan_bound, plan_writes_no_input}
 
@@ -23,9 +22,6 @@ pub plan_orders : (n m : ℕ) → n ≤ bid_limit → m ≤ pool_limit → AllWe
 plan_orders n m bids pools = all_well_formed n m (plan n m) (plan_writes_no_input n m bids pools)
 
 module _ (n m : ℕ) (bids : n ≤ bid_limit) (positive : 0 < m) (pools : m ≤ pool_limit) where
-  pub plan_well_formed : (at : ℕ) → at < length (plan n m) → WellFormed (get_or (plan n m) at (Constant 0 0))
-  plan_well_formed at h = (all_at (WritesNoInput n m) (plan n m) (plan_writes_no_input n m bids pools) at (Constant 0 0) h).0
-
   pub plan_length_limit : length (plan n m) ≤ order_limit n m
   plan_length_limit = plan_bound n m positive pools
 
