@@ -3,14 +3,14 @@
 // has room for any input. Each function takes what prints and what is read, as two values: one of both would only be taken apart.
 use checking::check;
 use clearing::clear;
-use definitions::{LentBook, Order, Parts, Reason};
+use definitions::{Counts, LentBook, Order, Parts, Reason};
 use feasible::Sent;
 use judging::judge_bid;
 use opening::open;
-use orders::{Asked, Plan, Position, Written, write_plan};
+use orders::{Asked, Plan, Position, Written, write_column_plan, write_plan};
 use printing::{print_number, print_numbers, print_verdict};
 use runner::run;
-use sealing::seal;
+use sealing::{seal, seal_columns};
 use std::io;
 use views::view;
 use words::{
@@ -43,6 +43,9 @@ pub enum Call {
     Write,
     View,
     Check,
+    SealColumns,
+    AskColumns,
+    WriteColumns,
 }
 
 impl TryFrom<u32> for Call {
@@ -60,6 +63,9 @@ impl TryFrom<u32> for Call {
             8 => Ok(Call::Write),
             9 => Ok(Call::View),
             10 => Ok(Call::Check),
+            11 => Ok(Call::SealColumns),
+            12 => Ok(Call::AskColumns),
+            13 => Ok(Call::WriteColumns),
             _ => Err(Failure::Unreadable),
         }
     }
@@ -69,15 +75,18 @@ impl Call {
     pub fn make(self, rt: &impl Print, input: &[u8]) -> Result<(), Failure> {
         match self {
             Call::Bid => call_bid(rt, input),
-            Call::Seal => call_seal(rt, input),
+            Call::Seal => call_seal(rt, input, seal),
             Call::Open => call_open(rt, input),
             Call::Clear => call_clear(rt, input),
             Call::Run => call_run(rt, input),
-            Call::Ask => call_ask(rt, input),
+            Call::Ask => call_ask(rt, input, Position::ask),
             Call::Total => call_total(rt, input),
-            Call::Write => call_write(rt, input),
+            Call::Write => call_write(rt, input, write_plan),
             Call::View => call_view(rt, input),
             Call::Check => call_check(rt, input),
+            Call::SealColumns => call_seal(rt, input, seal_columns),
+            Call::AskColumns => call_ask(rt, input, Position::ask_columns),
+            Call::WriteColumns => call_write(rt, input, write_column_plan),
         }
     }
 }
@@ -149,7 +158,12 @@ where
     Ok(print_numbers(rt, b"sheet", sheet)?)
 }
 
-fn call_seal(rt: &impl Print, input: &[u8]) -> Result<(), Failure> {
+// Seals by rows or by columns, as the function given does.
+fn call_seal<F>(rt: &impl Print, input: &[u8], seal: F) -> Result<(), Failure>
+where
+    F: FnOnce(&LentBook, &mut [u32]) -> Result<Counts, Reason>,
+    requires { F.IsAlwaysCallable seal }
+{
     call_on_book(rt, input, |book, sheet| {
         print_verdict(rt, seal(book, sheet).map(|_| ()))
     })
@@ -199,16 +213,20 @@ fn call_run(rt: &impl Print, input: &[u8]) -> Result<(), Failure> {
     Ok(print_numbers(rt, b"sheet", sheet)?)
 }
 
-// ---- Asking the plan: n, m and a position
+// ---- Asking the plan, by rows or by columns: n, m and a position
 
-fn call_ask(rt: &impl Print, input: &[u8]) -> Result<(), Failure> {
+fn call_ask<F>(rt: &impl Print, input: &[u8], ask: F) -> Result<(), Failure>
+where
+    F: FnOnce(Position) -> Result<Asked, Reason>,
+    requires { F.IsAlwaysCallable ask }
+{
     let [] = slices::<0>(input, 4).ok_or(Failure::Unreadable)?;
     let position = Position {
         n: number(input, 1),
         m: number(input, 2),
         at: number(input, 3),
     };
-    let asked = position.ask();
+    let asked = ask(position);
     print_verdict(rt, asked.map(|_| ()))?;
     if let Ok(asked) = asked {
         print_asked(rt, asked)?;
@@ -242,15 +260,19 @@ fn call_total(rt: &impl Print, input: &[u8]) -> Result<(), Failure> {
     Ok(print_counted(rt, Plan::total(number(input, 1), number(input, 2)))?)
 }
 
-// ---- Writing the plan: n, m and a position; bytes
+// ---- Writing the plan, by rows or by columns: n, m and a position; bytes
 
-fn call_write(rt: &impl Print, input: &[u8]) -> Result<(), Failure> {
+fn call_write<F>(rt: &impl Print, input: &[u8], write: F) -> Result<(), Failure>
+where
+    F: FnOnce(usize, usize, usize, &mut [u8]) -> Result<Written, Reason>,
+    requires { F.IsAlwaysCallable write }
+{
     let ([], slice) = slices_and_bytes::<0>(input, 4).ok_or(Failure::Unreadable)?;
     let mut bytes = room();
     let slice = lend(input, slice, &mut bytes);
     print_written(
         rt,
-        write_plan(number(input, 1), number(input, 2), number(input, 3), slice),
+        write(number(input, 1), number(input, 2), number(input, 3), slice),
     )?;
     Ok(print_numbers(rt, b"slice", slice)?)
 }
