@@ -1,4 +1,6 @@
-"""The machine and the plan's bytes, written apart from the unit from document 01's words."""
+"""The machine and the plan's bytes, written apart from the unit from document 01's words; and the sheet by columns, from document 02's, request 6."""
+import functools
+
 from solver import BID_NUMBERS, HUNDRED, POOL_RESULTS
 
 P, CELLS = 2_147_483_647, 4_096
@@ -55,7 +57,14 @@ def run(found, cells):
             continue
         kind, d, a, b = parts
         x, y = cells[a], cells[b]
-        cells[d] = [None, (x + y) % P, (x - y) % P, x * y % P, int(signed(x) < signed(y)), int(x == y)][kind]
+        if kind == 1:
+            cells[d] = (x + y) % P
+        elif kind == 2:
+            cells[d] = (x - y) % P
+        elif kind == 3:
+            cells[d] = x * y % P
+        else:
+            cells[d] = int(signed(x) < signed(y) if kind == 4 else x == y)
     return cells
 
 
@@ -67,8 +76,13 @@ def groups(value):
     return out + [value]
 
 
+@functools.cache
+def grouped(value):
+    return bytes(groups(value))
+
+
 def encoded(parts):
-    return bytes(b for v in parts for b in groups(v))
+    return b"".join(map(grouped, parts))
 
 
 def sheet(values):
@@ -81,6 +95,28 @@ def inputs(bids, capacities):
 
 def sealed(bids, capacities):
     return sheet(inputs(bids, capacities))
+
+
+# the numbers of a bid as they stand in its row; by columns "all pools, then all prices, hundredths, quantities" (request 6 of document 02)
+ROW, COLUMNS = ["pool", "price", "quantity", "hundredths"], ["pool", "price", "hundredths", "quantity"]
+
+
+def column_cell(n, c):
+    """A row sheet's cell by its number on the column sheet, where "capacities, results and scratch stay in place" and a bid's cells go to columns."""
+    bid, place = divmod(c, BID_NUMBERS)
+    return COLUMNS.index(ROW[place]) * n + bid if bid < n else c
+
+
+def renumbered(n, found):
+    """Orders "with each cell number replaced by its new one"; the constant of an order of kind 0 is no cell's number."""
+    new = [column_cell(n, c) for c in range(CELLS)]
+    return [[kind, new[d], *(rest if kind == 0 else [new[c] for c in rest])] for kind, d, *rest in found]
+
+
+def column_sealed(bids, capacities):
+    """The sealed sheet by columns, written from the columns and not by the cells' new numbers."""
+    pools, prices, quantities, hundredths = ([bid[k] for bid in bids] for k in range(BID_NUMBERS))
+    return sheet(pools + prices + hundredths + quantities + [v for row in capacities for v in row])
 
 
 def pool_cells(price):
