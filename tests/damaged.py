@@ -67,12 +67,12 @@ def answer(replay, data):
 
 def main():
     replay, dump, count, draw = arguments.taken(2, 500)
-    plan = lambda n, m: subprocess.run([dump, n, m], stdout=subprocess.PIPE, check=True).stdout
-    longest = plan("64", "4")
-    for data in [longest, longest[:-1]]:
+    plan = lambda *words: subprocess.run([dump, *words], stdout=subprocess.PIPE, check=True).stdout
+    longest, columns = plan("64", "4"), plan("64", "4", "columns")
+    for data in [longest, longest[:-1], columns, columns[:-1]]:
         assert answer(replay, data) == expected(data), "the longest plan"
     assert answer(replay, longest + longest) == "not read whole\n", "more than replay's room"
-    plans = [plan(*counts) for counts in ["01", "22", "53", "34"]]
+    plans = [plan(*words) for words in ["01", "22", "53", "34", ["2", "2", "columns"]]]
     seen = collections.Counter()
     for k in range(count):
         own = k % 5 == 0
