@@ -1,5 +1,6 @@
-/* Walks the whole plan of every n and m as a host program would, in slices of FIRST bytes, or of FIRST, FIRST + 1, ... LAST, FIRST, ... bytes in
- * turn, checks what the calls leave, and prints a digest of all bytes: the same for every walk. Usage: host FIRST [LAST] */
+/* Walks the whole plan of every n and m, by rows or by columns, as a host program would, in slices of FIRST bytes, or of FIRST, FIRST + 1, ... LAST,
+ * FIRST, ... bytes in turn, checks what the calls leave, and prints a digest of all bytes: the same for every walk by rows, and for every walk by
+ * columns. Usage: host rows|columns FIRST [LAST] */
 #include <stdio.h>
 #include <stdlib.h>
 #include <string.h>
@@ -49,24 +50,32 @@ static uint64_t orders_in(size_t size) {
     return count;
 }
 
-static void refused(void) {
+/* Each refusal at its conditions, together with those that come after it. */
+static void refused(writer *write) {
+    uint64_t total;
     fill(64);
-    require(plan_total(65, 0, out, 7) == 1, "1 before 2 and 3");
+    require(plan_total(3, 2, out, 8) == 0, "total");
+    total = number(out);
+    fill(64);
+    require(plan_total(65, 0, out, 7) == 1 && plan_total(UINT64_MAX, 5, out, 9) == 1, "1 before 2 and 3");
     require(plan_total(64, 0, out, 7) == 2 && plan_total(64, 5, out, 7) == 2, "2 before 3");
     require(plan_total(64, 4, out, 7) == 3 && plan_total(64, 4, out, 9) == 3, "3");
-    require(plan_bytes(65, 0, 1, bytes, 7, out, 23) == 1, "1 first");
-    require(plan_bytes(3, 0, 1, bytes, 7, out, 23) == 2, "2 first");
-    require(plan_bytes(3, 2, UINT64_MAX, bytes, 7, out, 23) == 3, "3 before 13 and 14");
-    require(plan_bytes(3, 2, UINT64_MAX, bytes, 7, out, 24) == 13, "13 before 14");
-    require(plan_bytes(3, 2, 0, bytes, 7, out, 24) == 14, "14");
+    require(write(65, 0, 1, bytes, 7, out, 23) == 1 && write(UINT64_MAX, 5, UINT64_MAX, bytes, 7, out, 25) == 1, "1 first");
+    require(write(3, 0, 1, bytes, 7, out, 23) == 2 && write(3, 5, UINT64_MAX, bytes, 7, out, 25) == 2, "2 first");
+    require(write(3, 2, UINT64_MAX, bytes, 7, out, 23) == 3 && write(3, 2, total + 1, bytes, 7, out, 25) == 3, "3 before 13 and 14");
+    require(write(3, 2, total, bytes, 7, out, 8) == 3 && write(3, 2, 0, bytes, 64, out, 0) == 3, "3");
+    require(write(3, 2, UINT64_MAX, bytes, 7, out, 24) == 13 && write(3, 2, total + 1, bytes, 7, out, 24) == 13, "13 before 14");
+    require(write(3, 2, 0, bytes, 7, out, 24) == 14 && write(3, 2, total, bytes, 0, out, 24) == 14, "14");
     require(kept(0, 64, 0), "a refusal changes nothing");
 }
 
 int main(int count, char **words) {
-    size_t first = count > 1 ? strtoul(words[1], NULL, 10) : 8, last = count > 2 ? strtoul(words[2], NULL, 10) : first, length = first;
+    require((count == 3 || count == 4) && (strcmp(words[1], "rows") == 0 || strcmp(words[1], "columns") == 0), "host rows|columns FIRST [LAST]");
+    writer *write = strcmp(words[1], "rows") == 0 ? plan_bytes : column_plan_bytes;
+    size_t first = strtoul(words[2], NULL, 10), last = count > 3 ? strtoul(words[3], NULL, 10) : first, length = first;
     uint64_t digest = 14695981039346656037u, orders = 0, all = 0;
     require(8 <= first && first <= last && last <= ROOM, "lengths from 8 to 4,096");
-    refused();
+    refused(write);
     for (uint64_t n = 0; n <= 64; n++) {
         for (uint64_t m = 1; m <= 4; m++) {
             fill(0);
@@ -75,7 +84,7 @@ int main(int count, char **words) {
             require(total <= n * (200 * n + 40 * (m + 1) * (m + 1) * (m + 1) * (m + 1) * (m + 1) * (m + 1)) + 10000, "limit");
             while (position < total) {
                 fill(length);
-                require(plan_bytes(n, m, position, bytes, length, out, 24) == 0, "bytes");
+                require(write(n, m, position, bytes, length, out, 24) == 0, "bytes");
                 uint64_t size = number(out), given = number(out + 8), next = number(out + 16);
                 require(size <= length && given > 0 && next == position + given && next <= total, "counts");
                 require(kept(size, length, 24), "the bytes after the written ones are kept");
@@ -89,10 +98,10 @@ int main(int count, char **words) {
                 all += size;
             }
             fill(length);
-            require(plan_bytes(n, m, total, bytes, length, out, 24) == 0 && kept(0, length, 24), "the end");
+            require(write(n, m, total, bytes, length, out, 24) == 0 && kept(0, length, 24), "the end");
             require(number(out) == 0 && number(out + 8) == 0 && number(out + 16) == total, "counts at the end");
             fill(length);
-            require(plan_bytes(n, m, total + 1, bytes, length, out, 24) == 13 && kept(0, length, 0), "past the end");
+            require(write(n, m, total + 1, bytes, length, out, 24) == 13 && kept(0, length, 0), "past the end");
         }
     }
     printf("%llu orders, %llu bytes, digest %016llx\n", (unsigned long long)orders, (unsigned long long)all, (unsigned long long)digest);
