@@ -1,7 +1,8 @@
 """The program `calls` written apart from the unit, from the documents' words: what it prints for the words of its input.
 
 The list of a plan's orders is the one thing that is not computed here: document 01 leaves it open. It is read from the bytes that the program of
-tests/dump.c writes. What a plan leaves is computed by the machine written apart, and held to the solver."""
+tests/dump.c writes, and the column plan's orders are these orders with each cell number replaced by its new one. What a plan leaves is computed by
+the machine written apart, and held to the solver."""
 import collections
 import struct
 import subprocess
@@ -23,15 +24,20 @@ class Refused(Exception):
 
 
 class Plans:
-    """The plans' orders as the C host gives them, each read once."""
+    """The plans' orders as the C host gives them, each read once, and the column plans' orders."""
 
     def __init__(self, dump):
-        self.dump, self.known = dump, {}
+        self.dump, self.known, self.renumbered = dump, {}, {}
 
     def __call__(self, n, m):
         if (n, m) not in self.known:
             self.known[n, m] = orders.orders(subprocess.run([self.dump, str(n), str(m)], stdout=subprocess.PIPE, check=True).stdout)
         return self.known[n, m]
+
+    def by_columns(self, n, m):
+        if (n, m) not in self.renumbered:
+            self.renumbered[n, m] = orders.renumbered(n, self(n, m))
+        return self.renumbered[n, m]
 
 
 class Words:
@@ -145,10 +151,11 @@ def bid(plans, words):
     return answered(made, [], [])
 
 
-def seal(plans, words):
+def seal(sealed, words):
+    """By rows or by columns: `sealed` gives a book's sealed sheet."""
     n, m, bids, capacities, sheet = words.number(), words.number(), words.signed_slice(), words.signed_slice(), words.slice()
     words.ended()
-    return answered(lambda: [line("sheet", orders.sealed(*book(n, m, bids, capacities, (sheet, orders.CELLS))))], [], [("sheet", sheet)])
+    return answered(lambda: [line("sheet", sealed(*book(n, m, bids, capacities, (sheet, orders.CELLS))))], [], [("sheet", sheet)])
 
 
 def opened(plans, words):
@@ -265,7 +272,12 @@ def check(plans, words):
     return answered(made, ["yes"], [])
 
 
-CALLS = {1: bid, 2: seal, 3: opened, 4: clear, 5: run, 6: ask, 7: total, 8: write, 9: view, 10: check}
+CALLS = {
+    1: bid, 2: lambda plans, words: seal(orders.sealed, words), 3: opened, 4: clear, 5: run, 6: ask, 7: total, 8: write, 9: view, 10: check,
+    # by columns: the same on the column sheet or with the column plans
+    11: lambda plans, words: seal(orders.column_sealed, words), 12: lambda plans, words: ask(plans.by_columns, words),
+    13: lambda plans, words: write(plans.by_columns, words),
+}
 
 
 def answer(plans, data):

@@ -4,6 +4,7 @@ CALLS is the program that makes one call on the words of its input, DUMP the pro
 with one fault or two, and input that is no call's; every printed line is compared. A bid alone is tried with its numbers at all ends of their ranges
 and beyond. Then the stored inputs and lines of tests/calls.txt."""
 import collections
+import functools
 import itertools
 import pathlib
 import struct
@@ -103,7 +104,7 @@ def lodged(number, draw, faults, n, m, bids, capacities, *further):
     return call(number, [n, m], *slices)
 
 
-def book(number, draw, faults):
+def book(number, draw, plans, faults):
     cells = [draw.choice(CELLS + HIGH) for _ in range(orders.CELLS)]  # any contents
     return lodged(number, draw, faults, *books.sound(draw, *draw.choice(COUNTS)), cells)
 
@@ -137,11 +138,16 @@ def run(draw, plans, faults):
     return call(5, [], cells, data)
 
 
+def moved(plans, n, m):
+    """The positions of the orders that are others by columns; with none, of the first."""
+    return [at for at, (row, column) in enumerate(zip(plans(n, m), plans.by_columns(n, m))) if row != column] or [0]
+
+
 def asked(draw, plans, faults):
     """Counts and a position within the plan, or at its end."""
     n, m = draw.choice(COUNTS)
     total = len(plans(n, m))
-    at = draw.choice([0, 1, total - 1, total, draw.randrange(total)])
+    at = draw.choice([0, 1, total - 1, total, draw.randrange(total), draw.choice(moved(plans, n, m))])
     for _ in range(faults):
         if draw.random() < 0.5:
             n, m = bad_counts(draw, n, m)
@@ -150,8 +156,8 @@ def asked(draw, plans, faults):
     return [n, m, at]
 
 
-def ask(draw, plans, faults):
-    return call(6, asked(draw, plans, faults))
+def ask(number, draw, plans, faults):
+    return call(number, asked(draw, plans, faults))
 
 
 def total(draw, plans, faults):
@@ -159,11 +165,11 @@ def total(draw, plans, faults):
     return call(7, bad_counts(draw, n, m) if faults else (n, m))
 
 
-def write(draw, plans, faults):
+def write(number, draw, plans, faults):
     lent = [draw.randrange(256) for _ in range(draw.choice([8, 9, 15, 16, 64, 300, 4_096, draw.randint(8, 99)]))]
     if faults and draw.random() < 0.4:
         lent, faults = lent[:draw.choice([0, 1, 7])], faults - 1
-    return call(8, asked(draw, plans, faults), lent)
+    return call(number, asked(draw, plans, faults), lent)
 
 
 def view(draw, plans, faults):
@@ -206,7 +212,7 @@ def unreadable(draw, data):
     if kind == 2:
         return packed(words[:draw.randrange(len(words))])
     if kind == 3:
-        return packed([draw.choice([0, *range(1, 20), 104, 106, 107, 108, 2**31, WORDS - 1]), *words[1:]])
+        return packed([draw.choice([0, *range(1, 20), 104, 106, 107, 108, 112, 113, 2**31, WORDS - 1]), *words[1:]])
     if kind == 4:
         return packed(words + [0] * (answers.ROOM + draw.choice([0, 1]) - len(words)))
     at = draw.randrange(min(len(words), 12)) if kind == 5 else len(words) - 1 - draw.randrange(min(len(words), 12))
@@ -216,8 +222,8 @@ def unreadable(draw, data):
 
 # the least and the most that is read: no word, words alone, slices that fill the room, one word more than that
 EDGES = [b"", b"\0", b"\1\0\0", *(packed([number]) for number in range(0, 20)), packed([WORDS - 1]), call(3, [0, 1], [], []), call(5, [], [], []),
-         call(8, [0, 1, 0], [255] * (answers.ROOM - 5)), call(8, [0, 1, 0], [255] * (answers.ROOM - 4)), call(8, [0, 1, 0], [256] * 9),
-         call(2, [0, 1], [], [0], [9] * (answers.ROOM - 7)), call(2, [0, 1], [], [0], [9] * (answers.ROOM - 6)), call(3, [0, 1], [0] * 4_096, [0] * 4_091),
+         *(call(number, [0, 1, 0], lent) for number in [8, 13] for lent in [[255] * (answers.ROOM - 5), [255] * (answers.ROOM - 4), [256] * 9]),
+         *(call(number, [0, 1], [], [0], [9] * (answers.ROOM - left)) for number in [2, 11] for left in [7, 6]), call(3, [0, 1], [0] * 4_096, [0] * 4_091),
          call(9, [0, 1, 0], [], [], [9] * (answers.ROOM - 7)), call(9, [0, 1, 0], [], [], [9] * (answers.ROOM - 6)),
          call(10, [0, 1], [], [0], [], [9] * (answers.ROOM - 8)), call(10, [0, 1], [], [0], [], [9] * (answers.ROOM - 7)),
          call(8, [0, 1, 0], [7] * 9)[:-1], packed([8, 0, 1, 0, WORDS - 1, 7]), packed([2, 0, 1, 2**31, 0, 0]), bytes(4 * answers.ROOM), bytes(4 * answers.ROOM + 1)]
@@ -231,15 +237,18 @@ ALONE = [call(1, [POOLS, *values]) for values in itertools.product(
 # each call's inputs, and what it has to be seen to answer: 0 for accepted, or what is said then, and each of its refusals
 CALLS = {
     1: (bid, {0, 2, 4, 5, 6}),
-    2: (lambda draw, plans, faults: book(2, draw, faults), set(range(9))),
+    2: (functools.partial(book, 2), set(range(9))),
     3: (opened, {0, 1, 2, 3, 15}),
-    4: (lambda draw, plans, faults: book(4, draw, faults), {"sales below 0", "sales 0", "sales above 0", *range(1, 9)}),
+    4: (functools.partial(book, 4), {"sales below 0", "sales 0", "sales above 0", *range(1, 9)}),
     5: (run, {0, 3, 9, 10, 11, 12, 15}),
-    6: (ask, {0, 1, 2, 13}),
+    6: (functools.partial(ask, 6), {0, 1, 2, 13}),
     7: (total, {0, 1, 2}),
-    8: (write, {0, 1, 2, 13, 14}),
+    8: (functools.partial(write, 8), {0, 1, 2, 13, 14}),
     9: (view, {0, 1, 2, 3, 16}),
     10: (check, {"yes 0", "yes 1", *range(1, 9)}),
+    11: (functools.partial(book, 11), set(range(9))),
+    12: (functools.partial(ask, 12), {0, 1, 2, 13}),
+    13: (functools.partial(write, 13), {0, 1, 2, 13, 14}),
 }
 
 
