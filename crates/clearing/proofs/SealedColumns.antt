@@ -1,6 +1,6 @@
 -- The two sealed sheets of an accepted book hold the same values under the renumbering to columns (`sealed_alike`), so after any orders, and renumbered by
 -- columns, they still do, after every one (`after_every_order`).
-use Rattle.std.specs.Prelude.{◌≡◌, refl, Bool, ℕ, zero, suc, ◌+◌, ◌-◌, ◌*◌, ◌/◌, ◌%◌, ◌≤◌, ◌<◌, List, ◌++◌, map, length, get_or, replicate, take, ℤ, pos}
+use Rattle.std.specs.Prelude.{◌≡◌, Bool, ℕ, ◌+◌, ◌-◌, ◌*◌, ◌/◌, ◌%◌, ◌≤◌, ◌<◌, List, ◌++◌, map, length, replicate, take}
 use Rattle.std.proofs.Common.{sym, ap, ◌∙◌, arith, append_assoc, length-append, get_or-append-add, mul-le-mul}
 use Rattle.std.proofs.lemmas.List.{length-map, length-replicate, take-map}
 use Rattle.std.proofs.Math.ListN.{get_or-append}
@@ -8,7 +8,7 @@ use Rattle.std.proofs.Math.Arith.{digits_lt}
 use Rattle.definitions.specs.declared.Order.{Order}
 use Rattle.definitions.specs.Limits.{bid_numbers, cell_count}
 use Rattle.definitions.specs.Arithmetic.{residue, join_to}
-use Rattle.definitions.specs.Book.{Book, pool, whole_price, quantity, hundredths}
+use Rattle.definitions.specs.Book.{Book}
 use Rattle.definitions.specs.Sheet.{sealed_sheet}
 use Rattle.definitions.specs.Machine.{cell, run_of}
 use Rattle.definitions.specs.Columns.{column_of, column_cell, renumbered, column, column_sealed_sheet, SameUnder}
@@ -16,14 +16,14 @@ use Rattle.laws.specs.Tests.{Lt?, less, more, lt?}
 use Rattle.laws.specs.Joined.{parts_length, parts_entry, joined_length, joined_entry}
 use Rattle.laws.specs.AcceptedBook.{Sound}
 use Rattle.columns.specs.Renumbering.{Alike, run_renumbered}
-use Rattle.sealing.specs.Numbers.{number_at, number_held}
+use Rattle.sealing.specs.Numbers.{number_in_row, number_held}
 use Rattle.columns.specs.Cells.{column_small, column_twice, column_of_bid, column_kept, columns_renumber}
 use Rattle.plan.proofs.SealedSheet.{sealed_length, sealed_bid, sealed_past}
 
 module _ (B : Book) (sound : Sound B) where
   -- the four columns: two have changed places, so the place of a column's number is the column of that place
   abbrev columns : List ℕ
-  columns = join_to bid_numbers (λ k. column (number_at B (column_of k)) B.n)
+  columns = join_to bid_numbers (λ k. column (number_in_row B (column_of k)) B.n)
 
   abbrev behind : List ℕ
   behind = map residue B.capacities ++ replicate (cell_count - (length B.bids + length B.capacities)) 0
@@ -33,14 +33,14 @@ module _ (B : Book) (sound : Sound B) where
   unfolding column_sealed_sheet join_to
   parts = append_assoc columns (map residue B.capacities) (replicate (cell_count - (length B.bids + length B.capacities)) 0)
 
-  column_long : (k : ℕ) → length (column (number_at B (column_of k)) B.n) ≡ B.n
+  column_long : (k : ℕ) → length (column (number_in_row B (column_of k)) B.n) ≡ B.n
   column_long k = joined_length B.n _
 
   columns_long : length columns ≡ bid_numbers * B.n
   columns_long = parts_length B.n _ column_long bid_numbers
 
   -- number i of a column
-  column_entry : (k i : ℕ) → k < bid_numbers → i < B.n → cell (column_sealed_sheet B) (k * B.n + i) ≡ residue (number_at B (column_of k) i)
+  column_entry : (k i : ℕ) → k < bid_numbers → i < B.n → cell (column_sealed_sheet B) (k * B.n + i) ≡ residue (number_in_row B (column_of k) i)
   column_entry k i l h =
       ap (λ (s : List ℕ). cell s (k * B.n + i)) parts
       ∙ get_or-append columns behind 0 (k * B.n + i) (omega (arith, columns_long, digits_lt l h))
@@ -51,7 +51,7 @@ module _ (B : Book) (sound : Sound B) where
   bid_cell i place l h =
       ap (cell (column_sealed_sheet B)) (column_of_bid B.n i place l h)
       ∙ column_entry (column_of place) i (column_small place) l
-      ∙ ap residue (ap (λ (j : ℕ). number_at B j i) (column_twice place h) ∙ sym (number_held B place i))
+      ∙ ap residue (ap (λ (j : ℕ). number_in_row B j i) (column_twice place h) ∙ sym (number_held B place i))
       ∙ sym (sealed_bid B (bid_numbers * i + place) (omega (arith, sound.bid_table)))
 
   -- behind the bids both are the same

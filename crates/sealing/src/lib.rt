@@ -9,7 +9,7 @@ ghost use Rattle.definitions.specs.Book.{book_of};
 ghost use Rattle.definitions.specs.Sheet.{sealed_sheet};
 ghost use Rattle.definitions.specs.Calls.{seal_refusal, seal_sheet};
 ghost use Rattle.definitions.specs.Columns.{column, column_sealed_sheet, seal_columns_sheet};
-ghost use Rattle.sealing.specs.Numbers.{number_at};
+ghost use Rattle.sealing.specs.Numbers.{number_in_row};
 
 use definitions::{Counts, LentBook, Limits, Reason};
 use judging::judge_book;
@@ -32,7 +32,7 @@ fn write_column(book: &LentBook, place: usize, cells: &mut [u32])
     requires whole_rows { length book.now.bids.now ≡ bid_numbers * book.now.n }
     requires in_a_row { place < bid_numbers }
     requires a_cell_each { length cells.old ≡ book.now.n }
-    ensures { cells.new ≡ column (number_at (book_of book.now) place) book.now.n }
+    ensures { cells.new ≡ column (number_in_row (book_of book.now) place) book.now.n }
 {
     for (i, cell) in cells.iter_mut().enumerate() {
         let number = book.bids[Limits::BID_NUMBERS * i + place];
