@@ -106,7 +106,8 @@ def lodged(number, draw, faults, n, m, bids, capacities, *further):
 
 def book(number, draw, plans, faults):
     cells = [draw.choice(CELLS + HIGH) for _ in range(orders.CELLS)]  # any contents
-    return lodged(number, draw, faults, *books.sound(draw, *draw.choice(COUNTS)), cells)
+    counts = draw.choice(COUNTS) if number == 4 else []  # clearing alone runs a plan
+    return lodged(number, draw, faults, *books.sound(draw, *counts), cells)
 
 
 def opened(draw, plans, faults):

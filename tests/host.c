@@ -66,6 +66,10 @@ static void refused(writer *write) {
     require(write(3, 2, total, bytes, 7, out, 8) == 3 && write(3, 2, 0, bytes, 64, out, 0) == 3, "3");
     require(write(3, 2, UINT64_MAX, bytes, 7, out, 24) == 13 && write(3, 2, total + 1, bytes, 7, out, 24) == 13, "13 before 14");
     require(write(3, 2, 0, bytes, 7, out, 24) == 14 && write(3, 2, total, bytes, 0, out, 24) == 14, "14");
+    uint64_t high = (uint64_t)1 << 32; /* a number cut to its low bits would be 3, 2 or 0 */
+    require(plan_total(high + 3, 2, out, 8) == 1 && plan_total(3, high + 2, out, 8) == 2, "numbers of 64 bits");
+    require(write(high + 3, 2, 0, bytes, 64, out, 24) == 1 && write(3, high + 2, 0, bytes, 64, out, 24) == 2, "numbers of 64 bits");
+    require(write(3, 2, high, bytes, 64, out, 24) == 13, "a position of 64 bits");
     require(kept(0, 64, 0), "a refusal changes nothing");
 }
 

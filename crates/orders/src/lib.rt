@@ -70,7 +70,7 @@ impl Position {
     }
 
     // Before the total there is an order, by rows or by columns; at the total the plan has ended.
-    pub fn ask_by(self, by: Numbering) -> Result<Asked, Reason>
+    fn ask_by(self, by: Numbering) -> Result<Asked, Reason>
         ensures answer { answer_of result ≡ asked (plan_by by plan) self.n self.m self.at }
         ensures same { SamePlan self.n self.m result }
     {

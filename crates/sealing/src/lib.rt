@@ -16,7 +16,7 @@ use judging::judge_book;
 use residues::residue;
 
 // Writes numbers as residues into as many cells. `sums` has this loop for sizes; one that is given the function would say more in its contract than
-// both loops do.
+// the loops do.
 fn write_residues(numbers: &[i32], cells: &mut [u32])
     requires { length numbers.now ≡ length cells.old }
     ensures { cells.new ≡ map arithmetic.residue numbers.now }
