@@ -102,7 +102,7 @@ ROW, COLUMNS = ["pool", "price", "quantity", "hundredths"], ["pool", "price", "h
 
 
 def column_cell(n, c):
-    """A row sheet's cell by its number on the column sheet, where "capacities, results and scratch stay in place" and a bid's cells go to columns."""
+    """The number on the column sheet of cell c of the row sheet; "capacities, results and scratch stay in place" and a bid's cells go to columns."""
     bid, place = divmod(c, BID_NUMBERS)
     return COLUMNS.index(ROW[place]) * n + bid if bid < n else c
 

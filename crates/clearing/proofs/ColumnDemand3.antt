@@ -14,7 +14,7 @@ use Rattle.definitions.specs.Machine.{IsSheet, cell, run_of, AllWellFormed}
 use Rattle.definitions.specs.Bytes.{orders_bytes}
 use Rattle.definitions.specs.Calls.{AcceptedBook, opened_results, open_refusal, open_slice}
 use Rattle.definitions.specs.Columns.{column_cell, column_plan, column_sealed_sheet, SameUnder}
-use Rattle.definitions.specs.Outcome.{Outcome, result_of, plan_run}
+use Rattle.definitions.specs.Outcome.{Outcome, order_limit, result_of, plan_run}
 use Rattle.laws.specs.AcceptedBook.{Sound, accepted_sound}
 use Rattle.judging.specs.Cells.{sheet_accepted}
 use Rattle.machine.specs.Run.{run_sheet_lem}
@@ -28,7 +28,8 @@ use Rattle.plan.proofs.PlanOrders.{plan_length_limit}
 use Rattle.plan.proofs.Asking.{asked_at_end}
 use Rattle.plan.proofs.Collected.{collected_plan}
 use Rattle.plan.proofs.SealedSheet.{sealed_is_sheet}
-use Rattle.clearing.specs.PlanClears.{plan_outcome}
+use Rattle.plan.proofs.AnExample.{three_pools}
+use Rattle.clearing.specs.PlanClears.{plan_outcome, three_pools_accepted}
 use Rattle.clearing.specs.ColumnDemand3.{ClearedByColumns, OneColumnPlan}
 use Rattle.clearing.proofs.Demand3.{counts, plan_orders_of, prices_held, cleared_by_plan}
 use Rattle.clearing.proofs.SealedColumns.{room, sealed_alike, after_every_order}
@@ -139,7 +140,9 @@ module _ (A : Book) (accepted : AcceptedBook A) where
         sheet = λ lent e. subst (λ (s : List ℕ). SameUnder (column_cell A.n) s by_columns) (sym (cleared.sheet lent e)) left_alike.same;
         opened = λ lent results e. same_slice results ∙ ap (λ (s : List ℕ). open_slice A.n A.m s results) (sym (cleared.sheet lent e));
         count = cleared.count ∙ sym as_long;
-        welfare_given = cleared.welfare_given (result_of A by_columns) outcome.best;
+        welfare_left = cleared.welfare_given (result_of A by_columns) outcome.best;
+        sales_left = cleared.sales_given (result_of A by_columns) outcome.best;
+        greatest_welfare = cleared.greatest_welfare;
       }
 
 -- a book is cleared by the column plan of another of the same counts
@@ -158,5 +161,9 @@ column_demand_3 A B a b n m =
       second_book = of-B;
       same_bytes = ap orders_bytes (sym of-B.is_plan);
       same_count = of-A.count ∙ sym of-B.count;
-      limit = omega (arith, plan_length_limit A.n A.m sound.bids sound.pools_positive sound.pools, as_long A a);
+      limit = subst (λ (k : ℕ). k ≤ order_limit A.n A.m) (sym (as_long A a)) (plan_length_limit A.n A.m sound.bids sound.pools_positive sound.pools);
     }
+
+-- an accepted book is all that it asks for
+example : OneColumnPlan three_pools three_pools
+example = column_demand_3 three_pools three_pools three_pools_accepted three_pools_accepted refl refl

@@ -1,6 +1,6 @@
 -- Demand 3, whole: one list of orders for every two accepted books of equal counts (`demand_3`).
 use Rattle.std.specs.Prelude.{ℕ, ◌≡◌, List, length, ℤ, pos, ◌≤ℤ◌, refl}
-use Rattle.std.proofs.Common.{subst, sym, ap, ◌∙◌, arith}
+use Rattle.std.proofs.Common.{subst, sym, ap, ◌∙◌}
 use Rattle.definitions.specs.Limits.{cell_count}
 use Rattle.definitions.specs.Book.{Book}
 use Rattle.definitions.specs.Sheet.{sealed_sheet}
@@ -21,7 +21,8 @@ use Rattle.plan.specs.Plan.{plan}
 use Rattle.plan.proofs.PlanOrders.{plan_orders, plan_length_limit}
 use Rattle.plan.proofs.Asking.{asked_at_end}
 use Rattle.plan.proofs.Collected.{collected_plan}
-use Rattle.clearing.specs.PlanClears.{plan_outcome}
+use Rattle.plan.proofs.AnExample.{three_pools}
+use Rattle.clearing.specs.PlanClears.{plan_outcome, three_pools_accepted}
 use Rattle.plan.proofs.SealedSheet.{sealed_is_sheet}
 use Rattle.clearing.specs.Demand3.{HoldsPrices, ClearedBy, OnePlan}
 
@@ -81,5 +82,9 @@ demand_3 A B a b n m =
       second_book = of-B;
       same_bytes = ap orders_bytes (sym of-B.is_plan);
       same_count = of-A.count ∙ sym of-B.count;
-      limit = omega (arith, plan_length_limit A.n A.m sound.bids sound.pools_positive sound.pools);
+      limit = plan_length_limit A.n A.m sound.bids sound.pools_positive sound.pools;
     }
+
+-- an accepted book is all that it asks for
+example : OnePlan three_pools three_pools
+example = demand_3 three_pools three_pools three_pools_accepted three_pools_accepted refl refl

@@ -21,7 +21,7 @@ use Rattle.columns.specs.Cells.{column_small, column_twice, column_of_bid, colum
 use Rattle.plan.proofs.SealedSheet.{sealed_length, sealed_bid, sealed_past}
 
 module _ (B : Book) (sound : Sound B) where
-  -- the four columns: two have changed places, so the place of a column's number is the column of that place
+  -- the four columns
   abbrev columns : List ℕ
   columns = join_to bid_numbers (λ k. column (number_in_row B (column_of k)) B.n)
 

@@ -47,7 +47,7 @@ module _ (B : Book) (accepted : AcceptedBook B) where
   unfolding plan_run
   plan_first_flows = clearing.2
 
-three_pools_accepted : AcceptedBook three_pools
+pub three_pools_accepted : AcceptedBook three_pools
 unfolding seal_refusal bids_refusal capacities_refusal row_refusal first_from
 three_pools_accepted = refl
 

@@ -1,17 +1,15 @@
 -- Two sheets that hold the same values under a renumbering of their cells still do after any orders, renumbered alike (`run_renumbered`).
-use Rattle.std.specs.Prelude.{Bool, ℕ, ◌≤◌, ◌<◌, ◌≡◌, refl, List, [], ◌∷◌, map, length, set}
+use Rattle.std.specs.Prelude.{Bool, ℕ, ◌≤◌, ◌<◌, ◌≡◌, List, [], ◌∷◌, map, length, set}
 use Rattle.std.proofs.Common.{sym, ap, ◌∙◌, arith, length-set, get_or-set_same, get_or-set_other}
 use Rattle.std.proofs.Math.Decide.{ℕ_discrete}
 use Rattle.std.proofs.lemmas.List.{set_past}
 use Rattle.definitions.specs.declared.Order.{Order}
 use Rattle.definitions.specs.declared.Order.TheVariants.{Constant, Sum, Difference, Product, Less, Equal}
 use Rattle.definitions.specs.Machine.{cell, plus, minus, times, less_than, same_as, step_of, run_of}
-use Rattle.definitions.specs.Answers.{parts_of}
 use Rattle.definitions.specs.Columns.{renumbered, SameUnder}
 use Rattle.laws.specs.Tests.{Lt?, less, more, lt?}
-use Rattle.machine.specs.Parts.{one_store}
 
--- new numbers for the cells of a sheet of some length, one-to-one on its cells, and the old numbers back
+-- new numbers for cells and the old ones back, one-to-one, and so on the cells of a sheet of some length among themselves
 pub record Renumbering (cells : ℕ) (new old : ℕ → ℕ) : Type 0 where
   pub undone : (c : ℕ) → old (new c) ≡ c
   pub redone : (c : ℕ) → new (old c) ≡ c
@@ -23,15 +21,6 @@ pub record Alike (cells : ℕ) (new : ℕ → ℕ) (s t : List ℕ) : Type 0 whe
   pub first : length s ≡ cells
   pub second : length t ≡ cells
   pub same : SameUnder new s t
-
--- an order keeps the sheet's length, and so do some
-step_length : (s : List ℕ) (o : Order) → length (step_of s o) ≡ length s
-step_length s o = ap length (one_store s o) ∙ length-set s (parts_of o).d _
-
-pub run_of_length : (os : List Order) (s : List ℕ) → length (run_of os s) ≡ length s
-unfolding run_of
-run_of_length [] s = refl
-run_of_length (o ∷ os) s = run_of_length os (step_of s o) ∙ step_length s o
 
 module _ {cells : ℕ} {new old : ℕ → ℕ} (r : Renumbering cells new old) where
   -- different cells have different new numbers

@@ -1,5 +1,5 @@
 -- The renumbering to columns, a plan by columns and sealing by columns, by computation.
-use Rattle.std.proofs.Common.{ℕ, ◌≡◌, refl, arith, List, [], ◌∷◌, map, take, length, replicate, pos, neg_ℤ}
+use Rattle.std.proofs.Common.{ℕ, ◌+◌, ◌≡◌, refl, arith, List, [], ◌∷◌, map, take, length, replicate, pos, neg_ℤ}
 use Rattle.definitions.specs.declared.Order.{Order}
 use Rattle.definitions.specs.declared.Order.TheVariants.{Constant, Sum, Difference, Product, Less, Equal}
 use Rattle.definitions.specs.Arithmetic.{join_to}
@@ -25,7 +25,7 @@ orders = refl
 
 -- a plan for two bids, and one pool or more
 one_order : (n m : ℕ) → List Order
-one_order n m = Sum 9 2 m ∷ []
+one_order n m = Sum (n + 7) 2 m ∷ []
 
 -- it is renumbered for the bids' number, asked as the row plan is and refused as it is
 answers : asked (column_plan one_order) 2 1 0 ∷ asked (column_plan one_order) 2 3 0 ∷ asked (column_plan one_order) 2 3 1 ∷ asked (column_plan one_order) 2 3 2
@@ -41,12 +41,14 @@ same s t h = (h 1, h 5, h 4095)
 
 -- ---- sealing
 
--- two bids that differ in every number, and capacities
+-- two bids that differ in every number, and the capacities of three pools
 two_bids : Book
 two_bids =
-    book 2 2 (pos 1 ∷ pos 20 ∷ neg_ℤ (pos 10) ∷ pos 25 ∷ pos 2 ∷ neg_ℤ (pos 3) ∷ pos 6 ∷ pos 50 ∷ []) (pos 0 ∷ pos 3 ∷ pos 5 ∷ pos 0 ∷ [])
+    book 2 3 (pos 1 ∷ pos 20 ∷ neg_ℤ (pos 10) ∷ pos 25 ∷ pos 2 ∷ neg_ℤ (pos 3) ∷ pos 6 ∷ pos 50 ∷ [])
+    (pos 0 ∷ pos 3 ∷ pos 5 ∷ pos 7 ∷ pos 0 ∷ pos 9 ∷ pos 11 ∷ pos 13 ∷ pos 0 ∷ [])
 
-sealed : take 14 (column_sealed_sheet two_bids) ≡ 1 ∷ 2 ∷ 20 ∷ 2147483644 ∷ 25 ∷ 50 ∷ 2147483637 ∷ 6 ∷ 0 ∷ 3 ∷ 5 ∷ 0 ∷ 0 ∷ 0 ∷ []
+sealed : take 19 (column_sealed_sheet two_bids)
+    ≡ 1 ∷ 2 ∷ 20 ∷ 2147483644 ∷ 25 ∷ 50 ∷ 2147483637 ∷ 6 ∷ 0 ∷ 3 ∷ 5 ∷ 7 ∷ 0 ∷ 9 ∷ 11 ∷ 13 ∷ 0 ∷ 0 ∷ 0 ∷ []
 unfolding two_bids column_sealed_sheet join_to
 sealed = refl
 
@@ -61,6 +63,6 @@ unfolding two_bids seal_columns_sheet column_sealed_sheet join_to seal_refusal b
 given = refl
 
 -- input cells stay as sealed by columns
-inputs_kept : (s : List ℕ) → Outcome two_bids (column_sealed_sheet two_bids) s → (cell s 2 ≡ 20) × (cell s 6 ≡ 2147483637) × (cell s 11 ≡ 0)
+inputs_kept : (s : List ℕ) → Outcome two_bids (column_sealed_sheet two_bids) s → (cell s 2 ≡ 20) × (cell s 6 ≡ 2147483637) × (cell s 15 ≡ 13) × (cell s 16 ≡ 0)
 unfolding two_bids column_sealed_sheet join_to
-inputs_kept s h = (h.inputs 2 (omega arith), h.inputs 6 (omega arith), h.inputs 11 (omega arith))
+inputs_kept s h = (h.inputs 2 (omega arith), h.inputs 6 (omega arith), h.inputs 15 (omega arith), h.inputs 16 (omega arith))

@@ -12,7 +12,7 @@ use Rattle.columns.specs.Plans.{plan_by, plan_by_length}
 use Rattle.plan.specs.Plan.{plan}
 use Rattle.plan.proofs.PlanOrders.{length_limit}
 use Rattle.orders.specs.Calls.{write_within}
-use Rattle.walk.proofs.Sequence.{orders_within, bytes_within, machine_orders}
+use Rattle.walk.proofs.Sequence.{orders_within, bytes_within, plan_by_orders}
 use Rattle.host.specs.Calls.{total_counts, total_given, bytes_writing, counts_given}
 use Rattle.host.specs.Numbers.{held, bytes_limit, lowest_length, counts_held}
 
@@ -66,7 +66,7 @@ unfolding written_counts
 counts_read_back by n m at bytes out accepted =
     let P : Plan = plan_by by plan in
     let within = write_within P n m at (length bytes) (bytes_writing P n m at bytes out accepted) in
-    let machine = machine_orders by n m within.counts in
+    let machine = plan_by_orders by n m within.counts in
     let as_long = plan_by_length plan n m by in
     let few = orders_within P n m within.counts machine at (length bytes) within.position in
     ap counts_held (counts_given P n m at bytes out accepted)

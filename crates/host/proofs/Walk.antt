@@ -14,7 +14,7 @@ use Rattle.plan.specs.Plan.{plan}
 use Rattle.walk.specs.Walk.{Reply, goes_on, Walk, sent_before, stop_at, after_call, walk, reply_of, writer_reply, Roomy}
 use Rattle.orders.specs.Calls.{counts_accepted, slice_accepted}
 use Rattle.walk.specs.Sequence.{PlanRun}
-use Rattle.walk.proofs.Sequence.{call_accepted, moves_within, none_only_at_end, nothing_left, slice_left, walk_accepted, stops_at_end, enough_slices, walk_stops, plan_sent, plan_run_lem, machine_orders}
+use Rattle.walk.proofs.Sequence.{call_accepted, moves_within, none_only_at_end, nothing_left, slice_left, walk_accepted, stops_at_end, enough_slices, walk_stops, plan_sent, plan_run_lem, plan_by_orders}
 use Rattle.host.specs.Calls.{total_passes, bytes_pass, bytes_given}
 use Rattle.host.specs.Numbers.{held, counts_held}
 use Rattle.host.proofs.ReadBack.{total_read_back, counts_read_back}
@@ -29,7 +29,7 @@ module _ (by : Numbering) (n m : ℕ) (counts : counts_refusal n m ≡ none) whe
   P = plan_by by plan
 
   machine : AllWellFormed (P n m)
-  machine = machine_orders by n m counts
+  machine = plan_by_orders by n m counts
 
   as_long : length (P n m) ≡ length (plan n m)
   as_long = plan_by_length plan n m by

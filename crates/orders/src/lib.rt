@@ -87,6 +87,7 @@ impl Position {
         Ok(Asked::Order(order, next))
     }
 
+    // Of the row plan, in the form that document 01 names.
     pub fn ask(self) -> Result<Asked, Reason>
         ensures answer { answer_of result ≡ asked plan self.n self.m self.at }
         ensures same { SamePlan self.n self.m result }
@@ -94,7 +95,7 @@ impl Position {
         self.ask_by(Numbering::Rows)
     }
 
-    // The same of the column plan.
+    // Of the column plan.
     pub fn ask_columns(self) -> Result<Asked, Reason>
         ensures answer { answer_of result ≡ asked (column_plan plan) self.n self.m self.at }
         ensures same { SamePlan self.n self.m result }
@@ -156,6 +157,7 @@ pub fn write_by(
     Ok(tables.write(by, total, at, out))
 }
 
+// The row plan's orders.
 pub fn write_plan(n: usize, m: usize, at: usize, out: &mut [u8]) -> Result<Written, Reason>
     ensures refusal { refusal_of result ≡ write_refusal plan n m at (length out.old) }
     ensures counts { counts_of result ≡ write_counts plan n m at (length out.old) }
@@ -164,7 +166,7 @@ pub fn write_plan(n: usize, m: usize, at: usize, out: &mut [u8]) -> Result<Writt
     write_by(Numbering::Rows, n, m, at, out)
 }
 
-// The same of the column plan.
+// The column plan's orders.
 pub fn write_column_plan(n: usize, m: usize, at: usize, out: &mut [u8]) -> Result<Written, Reason>
     ensures refusal { refusal_of result ≡ write_refusal (column_plan plan) n m at (length out.old) }
     ensures counts { counts_of result ≡ write_counts (column_plan plan) n m at (length out.old) }

@@ -1,7 +1,7 @@
 -- Calls of the writer one after another, with any slices of 8 bytes or more: a call gives no orders at the end of the plan (`nothing_left`) and only
 -- there (`none_only_at_end`), so a walk stops at the end (`stops_at_end`) and does stop (`walk_stops`); a walk that has come to the end has sent
 -- exactly the plan's bytes (`plan_sent`), which the runner accepts and runs as the plan (`plan_run_lem`). All this is said of any plan whose orders are
--- the machine's at the counts of the walk; the plan is one, by rows and by columns (`machine_orders`).
+-- the machine's at the counts of the walk; the plan is one, by rows and by columns (`plan_by_orders`).
 use Rattle.std.proofs.Common.{ℕ, zero, suc, ◌+◌, ◌*◌, ◌≤◌, ◌<◌, refl, sym, ap, ap₂, ◌∙◌, subst, true≢false, add-zero, take-append-drop, drop-drop, le-ltb, ltb-true, ltb-false, List, [], ◌∷◌, ◌++◌, append-nil, append_assoc, arith, length, take, drop, length-drop, take_at, ◌≡◌, Bool, true, false, cond, ltb, get_or}
 use Rattle.std.proofs.Math.Seq.{drop-length}
 use Rattle.definitions.specs.declared.Order.{Order}
@@ -241,7 +241,7 @@ module _ (P : Plan) (n m : ℕ) (counts : counts_refusal n m ≡ none) (machine 
 
 -- ---- the plan by rows and by columns
 
-pub machine_orders : (by : Numbering) (n m : ℕ) → counts_refusal n m ≡ none → AllWellFormed (plan_by by plan n m)
-machine_orders by n m counts =
+pub plan_by_orders : (by : Numbering) (n m : ℕ) → counts_refusal n m ≡ none → AllWellFormed (plan_by by plan n m)
+plan_by_orders by n m counts =
     let limits = counted n m counts in
     plan_by_well_formed by plan n m (omega arith) (plan_orders n m limits.bids limits.pools.most)

@@ -1,2 +1,3 @@
-// A host's walk through a plan, one call of the writer after another: where it stops and what it has sent. The definitions stand in specs/, the theorems in specs/ and proofs/.
+// A host's walk through a plan, one call of the writer after another: where it stops and what it has sent. The definitions stand in specs/, the theorems in
+// proofs/.
 #![tactic(auto)]
