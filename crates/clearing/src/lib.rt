@@ -46,7 +46,7 @@ pub fn clear(book: &LentBook, sheet: &mut [u32]) -> Result<Cleared, Reason>
     ensures cells { sheet.new ≡ clear_sheet plan (book_of book.now) sheet.old }
 {
     let counts = seal(book, sheet)?;
-    let orders = run_plan(counts.n, counts.m, sheet)?;
+    let orders = run_plan(counts.n, counts.m, sheet);
     let sums = welfare_of(counts, book.bids, sheet);
     Ok(Cleared {
         orders,

@@ -17,6 +17,7 @@ use crate::tables::Tables;
 use crate::write::judge_room;
 use columns::Numbering;
 use definitions::{Order, Reason, Verdict};
+use judging::judge_counts;
 
 mod blocks;
 mod names;
@@ -55,7 +56,8 @@ impl Position {
         ensures refusal { refusal_of result ≡ ask_refusal plan self.n self.m self.at }
         ensures counts { IfOk result (λ tables. (tables.counts.n ≡ self.n) × (tables.counts.m ≡ self.m)) }
     {
-        let tables = Tables::judged(self.n, self.m)?;
+        let counts = judge_counts(self.n, self.m)?;
+        let tables = Tables::new(counts);
         if tables.length() < self.at {
             return Err(Reason::Position);
         }
@@ -113,21 +115,31 @@ impl Plan {
         ensures refusal { refusal_of result ≡ counts_refusal n m }
         ensures count { given_or 0 result ≡ total plan n m }
     {
-        let tables = Tables::judged(n, m)?;
+        let counts = judge_counts(n, m)?;
+        let tables = Tables::new(counts);
         Ok(tables.length())
     }
 }
 
-// Runs the plan on a sheet, and gives how many orders it has; refused counts leave the sheet as it was. Any counts may be given, so they are plain
-// numbers, and opening's calls have the same: only the sheet is lent, and a struct of all three would be taken apart at once.
-pub fn run_plan(n: usize, m: usize, sheet: &mut [u32]) -> Result<usize, Reason>
+// Runs the plan on a sheet, and gives how many orders it has, or why the counts are refused, which leave the sheet as it was. Any counts may be given, so
+// they are plain numbers, and opening's calls have the same: only the sheet is lent, and a struct of all three would be taken apart at once.
+pub fn try_run_plan(n: usize, m: usize, sheet: &mut [u32]) -> Result<usize, Reason>
     ensures refusal { refusal_of result ≡ counts_refusal n m }
     ensures count { given_or 0 result ≡ total plan n m }
     ensures cells { sheet.new ≡ stepped_plan plan n m sheet.old }
 {
-    let tables = Tables::judged(n, m)?;
+    let counts = judge_counts(n, m)?;
+    let tables = Tables::new(counts);
     tables.run(sheet);
     Ok(tables.length())
+}
+
+// The same for a caller that has judged the counts: it refuses nothing, and refused counts give 0.
+pub fn run_plan(n: usize, m: usize, sheet: &mut [u32]) -> usize
+    ensures count { result ≡ total plan n m }
+    ensures cells { sheet.new ≡ stepped_plan plan n m sheet.old }
+{
+    try_run_plan(n, m, sheet).unwrap_or(0)
 }
 
 // What was written: bytes, orders, and the position after them.
@@ -151,7 +163,8 @@ pub fn write_by(
     ensures counts { counts_of result ≡ write_counts (plan_by by plan) n m at (length out.old) }
     ensures slice { out.new ≡ write_slice (plan_by by plan) n m at out.old }
 {
-    let tables = Tables::judged(n, m)?;
+    let counts = judge_counts(n, m)?;
+    let tables = Tables::new(counts);
     let total = tables.length();
     judge_room(total, at, out.len())?;
     Ok(tables.write(by, total, at, out))

@@ -1,7 +1,5 @@
 // The tables that a plan is made by: where each family of cells stands on the sheet, and how many orders each phase has.
-ghost use Rattle.std.specs.Prelude.{◌≡◌, ◌*◌, ◌^◌, ◌<◌, IfOk};
-ghost use Rattle.definitions.specs.Answers.{refusal_of};
-ghost use Rattle.definitions.specs.Calls.{counts_refusal};
+ghost use Rattle.std.specs.Prelude.{◌≡◌, ◌*◌, ◌^◌, ◌<◌};
 ghost use Rattle.plan.specs.Names.{number, family_place};
 ghost use Rattle.plan.specs.Plan.{scratch_count};
 ghost use Rattle.orders.specs.Tables.{IsLayout, IsSizes};
@@ -10,8 +8,7 @@ use crate::names::{Name, NamedOrder, Operation};
 use crate::sets::subset_count;
 use crate::shape::{Shape, Spot};
 use crate::table::{order_of, shape_of};
-use definitions::{Counts, Limits, Order, Reason};
-use judging::judge_counts;
+use definitions::{Counts, Limits, Order};
 use plan::Family::{self, *};
 use plan::Place;
 
@@ -115,8 +112,8 @@ impl Tables {
     ghost use Rattle.orders.specs.Shaped.{IsShape, InPhase};
     ghost use Rattle.orders.specs.Plans.{phase_of, order_at};
 
-    // The families one behind the other, then the phases by how many scratch cells there are.
-    fn new(counts: Counts) -> Tables
+    // The tables of a plan, for judged counts: the families one behind the other, then the phases by how many scratch cells there are.
+    pub fn new(counts: Counts) -> Tables
         ensures { (result.counts.n ≡ counts.n) × (result.counts.m ≡ counts.m) }
     {
         let mut starts = [0; STARTS];
@@ -138,15 +135,6 @@ impl Tables {
             scratch,
             sizes,
         }
-    }
-
-    // The tables of a plan, whose counts are judged first.
-    pub fn judged(n: usize, m: usize) -> Result<Tables, Reason>
-        ensures refusal { refusal_of result ≡ counts_refusal n m }
-        ensures counts { IfOk result (λ tables. (tables.counts.n ≡ n) × (tables.counts.m ≡ m)) }
-    {
-        let counts = judge_counts(n, m)?;
-        Ok(Tables::new(counts))
     }
 
     // The shape of phase k. Number and shape stay two values: a type for both would have to carry the counts too.

@@ -16,7 +16,7 @@ use Rattle.plan.proofs.Asking.{total_accepted}
 use Rattle.orders.specs.Runs.{stepped_plan}
 use Rattle.clearing.proofs.Sealing.{refused_count, refused_sum, refused_sheet, counts_pass, count_given, sum_given, sheet_given, amounts_within_lem, run_left}
 use Rattle.clearing.proofs.clear.Goals as goal
-use Rattle.clearing.proofs.clear.Goals.{After-from_residual, After-run_plan}
+use Rattle.clearing.proofs.clear.Goals.{After-from_residual, After-run_plan-orders}
 
 -- ---- the book is refused
 
@@ -46,17 +46,17 @@ returns-in_err-counts-clause-cells c = c.seal.ensures.cells ∙ refused_sheet (b
 -- ---- it is accepted
 
 -- the sheet after the plan
-ran : (c : After-run_plan) → c.run_plan.new.sheet ≡ plan_run plan (book_of c.args.book.now)
+ran : (c : After-run_plan-orders) → c.run_plan-orders.new.sheet ≡ plan_run plan (book_of c.args.book.now)
 ran c =
     let same = c.in_ok-counts.ensures.counts in
     run_left (book_of c.args.book.now) c.args.sheet.now (sym c.in_ok-counts.ensures.refusal) _ _ c.seal.ensures.cells
-    (c.run_plan.ensures.cells ∙ ap₂ (λ (n : ℕ) (m : ℕ). stepped_plan plan n m c.seal.new.sheet) same.0 same.1)
+    (c.run_plan-orders.ensures.cells ∙ ap₂ (λ (n : ℕ) (m : ℕ). stepped_plan plan n m c.seal.new.sheet) same.0 same.1)
 
 pub welfare_of-sums-requires : goal.welfare_of-sums-requires
 welfare_of-sums-requires c =
     let B : Book = book_of c.args.book.now in
     let same = c.in_ok-counts.ensures.counts in
-    let run = (goal.at.welfare_of-sums-requires c).After-run_plan in
+    let run = (goal.at.welfare_of-sums-requires c).After-run_plan-orders in
     rw (same.0, same.1, ran run) (amounts_within_lem B c.args.sheet.now (sym c.in_ok-counts.ensures.refusal))
 
 pub returns-clause-orders : goal.returns-clause-orders
@@ -64,16 +64,16 @@ returns-clause-orders c =
     let B : Book = book_of c.args.book.now in
     let same = c.in_ok-counts.ensures.counts in
     let accepted = sym c.in_ok-counts.ensures.refusal in
-    c.in_ok-orders.ensures.count
+    c.run_plan-orders.ensures.count
     ∙ ap₂ (total plan) same.0 same.1
     ∙ total_accepted plan B.n B.m (counts_pass B c.args.sheet.now accepted)
     ∙ count_given B c.args.sheet.now accepted
 
 -- a sum over the amounts that the sheet then holds is what is given of it
-sum_left : (c : After-run_plan) → (sum : Book → (ℕ → ℕ) → ℤ)
+sum_left : (c : After-run_plan-orders) → (sum : Book → (ℕ → ℕ) → ℤ)
     → let B = book_of c.args.book.now in
     let counts = c.in_ok-counts.counts in
-    sum (book counts.n counts.m B.bids B.capacities) (λ i. cell c.run_plan.new.sheet (amount_cell counts.n counts.m i))
+    sum (book counts.n counts.m B.bids B.capacities) (λ i. cell c.run_plan-orders.new.sheet (amount_cell counts.n counts.m i))
     ≡ unless (seal_refusal B (length c.args.sheet.now)) (sum B (result_of B (plan_run plan B)).accepted) (pos 0)
 sum_left c sum =
     let same = c.in_ok-counts.ensures.counts in
@@ -84,16 +84,16 @@ unfolding clear_welfare
 returns-clause-welfare c =
     to_z-of_z {w = w64} (search rules)
     ∙ c.welfare_of-sums.ensures.whole c.args.book.now.capacities.now
-    ∙ sum_left (goal.at.returns-clause-welfare c).After-run_plan welfare
+    ∙ sum_left (goal.at.returns-clause-welfare c).After-run_plan-orders welfare
 
 pub returns-clause-sales_welfare : goal.returns-clause-sales_welfare
 unfolding clear_sales_welfare
 returns-clause-sales_welfare c =
     to_z-of_z {w = w64} (search rules)
     ∙ c.welfare_of-sums.ensures.sales c.args.book.now.capacities.now
-    ∙ sum_left (goal.at.returns-clause-sales_welfare c).After-run_plan sales_welfare
+    ∙ sum_left (goal.at.returns-clause-sales_welfare c).After-run_plan-orders sales_welfare
 
 pub returns-clause-cells : goal.returns-clause-cells
 returns-clause-cells c =
-    let run = (goal.at.returns-clause-cells c).After-run_plan in
+    let run = (goal.at.returns-clause-cells c).After-run_plan-orders in
     ran run ∙ sheet_given (book_of c.args.book.now) c.args.sheet.now (sym c.in_ok-counts.ensures.refusal)
