@@ -50,15 +50,17 @@ fn put_counts(out: &mut [u8], written: Written)
     put_number(next, written.next);
 }
 
+// 1, 2, 3 are judged before the plan's tables are made, from which the total comes.
 #[tactic(auto, unfolding(definitions::specs::Plan::total_refusal, definitions::specs::Plan::total_slice, definitions::specs::Plan::total))]
 fn give_total(n: usize, m: usize, out: &mut [u8]) -> Verdict
     ensures refusal { refusal_of result ≡ total_refusal n m (length out.old) }
     ensures total { out.new ≡ total_slice plan n m out.old }
 {
-    let total = Plan::total(n, m)?;
+    judge_counts(n, m)?;
     if out.len() != NUMBER_BYTES {
         return Err(Reason::Length);
     }
+    let total = Plan::total(n, m)?;
     put_number(out, total);
     Ok(())
 }
