@@ -48,8 +48,8 @@ impl Word {
 // Digits by their sign and their value.
 #[derive(Clone, Copy)]
 pub struct Digits {
-    negative: bool,
-    value: u32,
+    pub negative: bool,
+    pub value: u32,
 }
 
 impl Digits {
