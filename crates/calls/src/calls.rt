@@ -1,8 +1,13 @@
 // The calls: a function for each reads the form of its input, makes the call and prints what it gives and leaves.
 // Word 0 is the call; behind it stand the call's numbers, then its slices. Each slice that is lent is a part, of the length given, of an array that
 // has room for any input. Each function takes what prints and what is read, as two values: one of both would only be taken apart.
+ghost use Rattle.std.specs.Prelude.{◌≡◌, false};
+ghost use Rattle.definitions.specs.Answers.{given_or};
+ghost use Rattle.clearing.specs.Given.{nothing_cleared};
+ghost use Rattle.orders.specs.Answer.{written_of, counts_of};
+
 use checking::check;
-use clearing::clear;
+use clearing::{Cleared, clear};
 use definitions::{Counts, LentBook, Order, Parts, Reason};
 use feasible::Sent;
 use judging::judge_bid;
@@ -91,6 +96,36 @@ impl Call {
     }
 }
 
+// ---- What a call gives where it refuses: its counts and the welfare are then 0, and a check says no
+
+fn count_given(count: Result<usize, Reason>) -> usize
+    ensures { result ≡ given_or 0 count }
+{
+    count.unwrap_or(0)
+}
+
+fn cleared_given(cleared: Result<Cleared, Reason>) -> Cleared
+    ensures { result ≡ given_or nothing_cleared cleared }
+{
+    cleared.unwrap_or(Cleared {
+        orders: 0,
+        welfare: 0,
+        sales_welfare: 0,
+    })
+}
+
+fn written_given(written: Result<Written, Reason>) -> Written
+    ensures { written_of result ≡ counts_of written }
+{
+    written.unwrap_or_default()
+}
+
+fn yes_given(checked: Result<bool, Reason>) -> bool
+    ensures { result ≡ given_or false checked }
+{
+    checked.unwrap_or(false)
+}
+
 // ---- What is lent
 
 // Lends as much of a room as the slice at a position fills, with the slice's entries in it.
@@ -172,20 +207,18 @@ where
 fn call_clear(rt: &impl Print, input: &[u8]) -> Result<(), Failure> {
     call_on_book(rt, input, |book, sheet| {
         let cleared = clear(book, sheet);
-        print_counted(rt, cleared.map(|cleared| cleared.orders))?;
-        print_number(rt, b"welfare", cleared.map_or(0, |cleared| cleared.welfare))?;
-        print_number(
-            rt,
-            b"sales",
-            cleared.map_or(0, |cleared| cleared.sales_welfare),
-        )
+        let given = cleared_given(cleared);
+        print_verdict(rt, cleared.map(|_| ()))?;
+        print_number(rt, b"orders", given.orders)?;
+        print_number(rt, b"welfare", given.welfare)?;
+        print_number(rt, b"sales", given.sales_welfare)
     })
 }
 
-// The verdict and the count of orders, 0 on a refusal.
+// The verdict and the count of orders.
 fn print_counted(rt: &impl Print, orders: Result<usize, Reason>) -> io::Result<()> {
     print_verdict(rt, orders.map(|_| ()))?;
-    print_number(rt, b"orders", orders.unwrap_or(0))
+    print_number(rt, b"orders", count_given(orders))
 }
 
 // ---- Opening: n and m; sheet, results
@@ -277,17 +310,13 @@ where
     Ok(print_numbers(rt, b"slice", slice)?)
 }
 
-// The verdict and the counts, 0 on a refusal.
+// The verdict and the counts.
 fn print_written(rt: &impl Print, written: Result<Written, Reason>) -> io::Result<()> {
     print_verdict(rt, written.map(|_| ()))?;
-    let written = written.unwrap_or(Written {
-        bytes: 0,
-        orders: 0,
-        next: 0,
-    });
-    print_number(rt, b"bytes", written.bytes)?;
-    print_number(rt, b"orders", written.orders)?;
-    print_number(rt, b"next", written.next)
+    let given = written_given(written);
+    print_number(rt, b"bytes", given.bytes)?;
+    print_number(rt, b"orders", given.orders)?;
+    print_number(rt, b"next", given.next)
 }
 
 // ---- A holder's view: n, m and the holder; table, results, view
@@ -326,5 +355,5 @@ fn call_check(rt: &impl Print, input: &[u8]) -> Result<(), Failure> {
     };
     let checked = check(&book, &sent);
     print_verdict(rt, checked.map(|_| ()))?;
-    Ok(print_number(rt, b"yes", usize::from(checked.unwrap_or(false)))?)
+    Ok(print_number(rt, b"yes", usize::from(yes_given(checked)))?)
 }
