@@ -2,7 +2,7 @@
 """What a reader must believe beside the crate of definitions.
 
 Every definition outside crates/definitions/specs that a contract cites (of a function that another crate or the C host can reach, or of a
-program) or that a theorem states which docs/DEMANDS.md or docs/SPECIFICATION.md names, with what these definitions cite in turn, has to stand
+program), or a law or an invariant of a type that can be reached, or that a theorem states which docs/DEMANDS.md or docs/SPECIFICATION.md names, with what these definitions cite in turn, has to stand
 in the table 'Beside the definitions' of docs/SPECIFICATION.md, and nothing else. The plan's list itself is left open by document 01, so the
 search stops at `plan`. Usage, at the repository's root: tests/specification.py"""
 import glob
@@ -136,6 +136,25 @@ def contracts(path, every):
     return '\n'.join(texts)
 
 
+HEADER = re.compile(r'(pub )?(?:struct|enum|trait|(impl))\b(.*)')
+
+
+def laws(path):
+    """what a trait's laws say of the types that others can reach, and what these types' own invariants say: `ghost NAME = { .. };` and `ghost NAME: { .. },`"""
+    lines = code_lines(path)
+    closed = set(re.findall(r'^(?:struct|enum|trait) (\w+)', '\n'.join(lines), re.M))
+    texts, reached = [], False
+    for line in lines:
+        header = HEADER.match(line)
+        if header:
+            public, implements, named = header.groups()
+            reached = not closed & set(re.findall(r'\w+', named)) if implements else bool(public)
+        law = re.match(r'\s+ghost (\w+)(?::| =) \{(.*)\}[,;]$', line)
+        if law and reached:
+            texts.append(law.group(2))
+    return '\n'.join(texts)
+
+
 def roots(modules):
     """what contracts and top statements cite"""
     found = set()
@@ -144,7 +163,7 @@ def roots(modules):
         main = f'crates/{crate}/src/' + ('main.rt' if program else 'lib.rt')
         inner = re.findall(r'^pub mod (\w+);', read(main), re.M)
         for path in [main] + [f'crates/{crate}/src/{name}.rt' for name in inner]:
-            found |= Imports(code_lines(path)).cited(contracts(path, program))
+            found |= Imports(code_lines(path)).cited(contracts(path, program) + '\n' + laws(path))
     documents = read('docs/DEMANDS.md').split('## How it is proved')[0] + read('docs/SPECIFICATION.md').split('## Beside the definitions')[0]
     # a law by its name, a word without a line below too; a word of the documents that is no law names a definition or something of the code
     words = set(re.findall(r'`([a-z][a-z0-9]*(?:_[a-z0-9]+)*)`', documents))
