@@ -2,9 +2,10 @@
 """What a reader must believe beside the crate of definitions.
 
 Every definition outside crates/definitions/specs that a contract cites (of a function that another crate or the C host can reach, or of a
-program), or a law or an invariant of a type that can be reached, or that a theorem states which docs/DEMANDS.md or docs/SPECIFICATION.md names, with what these definitions cite in turn, has to stand
-in the table 'Beside the definitions' of docs/SPECIFICATION.md, and nothing else. The plan's list itself is left open by document 01, so the
-search stops at `plan`. Usage, at the repository's root: tests/specification.py"""
+program), or a law of a trait or an invariant of a type that can be reached, or that a theorem states which docs/DEMANDS.md or
+docs/SPECIFICATION.md names, with what these definitions cite in turn, has to stand in the table 'Beside the definitions' of
+docs/SPECIFICATION.md, and nothing else. The plan's list itself is left open by document 01, so the search stops at `plan`. Usage, at the
+repository's root: tests/specification.py"""
 import glob
 import os
 import re
@@ -121,38 +122,44 @@ def specifications():
     return modules
 
 
+HEADER = re.compile(r'(pub )?(?:struct|enum|trait|(impl))\b(.*)')
+
+
+def blocks(path):
+    """the lines of a source file, each with the first line of the trait, type or impl that it stands in, if others can reach that"""
+    lines = code_lines(path)
+    closed = set(re.findall(r'^(?:struct|enum|trait) (\w+)', '\n'.join(lines), re.M))
+    block = ''
+    for line in lines:
+        header = HEADER.match(line)
+        if header:
+            public, implements, named = header.groups()
+            block = line if (not closed & set(re.findall(r'\w+', named)) if implements else public) else ''
+        yield line, block
+        if line == '}':
+            block = ''
+
+
 def contracts(path, every):
-    """the contracts of the functions of a source file that others can reach, or of every function"""
+    """the contracts of the functions of a source file that others can reach, a trait's with them, or of every function"""
     texts, current = [], None
-    for line in code_lines(path):
+    for line, block in blocks(path):
         text = line.strip()
         if re.match(r'(pub )?(extern "C" )?(pub )?fn ', text) or ' fn ' in text.split('(')[0]:
-            current = [] if every or text.startswith('pub ') else None
+            of_trait = block.startswith('pub trait') or ' for ' in block
+            current = [] if every or of_trait or text.startswith('pub ') else None
         if current is not None and text.startswith(('requires', 'ensures')):
             current.append(text)
-        if text == '{' and current is not None:
+        if (text == '{' or text.endswith(';')) and current is not None:
             texts += current
             current = None
     return '\n'.join(texts)
 
 
-HEADER = re.compile(r'(pub )?(?:struct|enum|trait|(impl))\b(.*)')
-
-
 def laws(path):
-    """what a trait's laws say of the types that others can reach, and what these types' own invariants say: `ghost NAME = { .. };` and `ghost NAME: { .. },`"""
-    lines = code_lines(path)
-    closed = set(re.findall(r'^(?:struct|enum|trait) (\w+)', '\n'.join(lines), re.M))
-    texts, reached = [], False
-    for line in lines:
-        header = HEADER.match(line)
-        if header:
-            public, implements, named = header.groups()
-            reached = not closed & set(re.findall(r'\w+', named)) if implements else bool(public)
-        law = re.match(r'\s+ghost (\w+)(?::| =) \{(.*)\}[,;]$', line)
-        if law and reached:
-            texts.append(law.group(2))
-    return '\n'.join(texts)
+    """what the laws of traits and the invariants of types say that others can reach: `ghost NAME = { .. };` and `ghost NAME: { .. },`"""
+    found = ((re.match(r'\s+ghost \w+(?::| =) \{(.*)\}[,;]$', line), block) for line, block in blocks(path))
+    return '\n'.join(law.group(1) for law, block in found if law and block)
 
 
 def roots(modules):
@@ -161,7 +168,7 @@ def roots(modules):
     for crate in sorted(os.listdir('crates')):
         program = os.path.exists(f'crates/{crate}/src/main.rt')
         main = f'crates/{crate}/src/' + ('main.rt' if program else 'lib.rt')
-        inner = re.findall(r'^pub mod (\w+);', read(main), re.M)
+        inner = re.findall(r'^(?:pub )?mod (\w+);' if program else r'^pub mod (\w+);', read(main), re.M)
         for path in [main] + [f'crates/{crate}/src/{name}.rt' for name in inner]:
             found |= Imports(code_lines(path)).cited(contracts(path, program) + '\n' + laws(path))
     documents = read('docs/DEMANDS.md').split('## How it is proved')[0] + read('docs/SPECIFICATION.md').split('## Beside the definitions')[0]
