@@ -15,6 +15,8 @@ TOKEN = re.compile(r'[^\s(){}\[\];,.«»"`:⌜⌝λ]+')
 HEAD = re.compile(r'^(abbrev |unfoldable )?(pub )?(data |record )?([^\s(){}:;=]+)(?: [({](?:[^(){}]|\([^()]*\))*[)}])* : ')
 BOUND = re.compile(r'[({]([^\s(){}:]+(?: [^\s(){}:]+)*) : ')
 USE = re.compile(r'^(?:ghost |unfoldable )?(?:pub )?use Rattle\.(?!std\b)(\w+)\.((?:specs|proofs)\.[\w.]+?)(?:\.\{([^}]*)\}| as (\w+))?;?$')
+HEADER = re.compile(r'(pub )?(?:struct|enum|trait|(impl))\b(.*)')
+LAW = re.compile(r'^\s+ghost \w+(?::| =) \{(.*?)\}[,;]$', re.M | re.S)
 STOP = {('plan', 'specs.Numbered', 'plan')}
 
 
@@ -122,9 +124,6 @@ def specifications():
     return modules
 
 
-HEADER = re.compile(r'(pub )?(?:struct|enum|trait|(impl))\b(.*)')
-
-
 def blocks(path):
     """the lines of a source file, each with the first line of the trait, type or impl that it stands in, if others can reach that"""
     lines = code_lines(path)
@@ -158,8 +157,7 @@ def contracts(path, every):
 
 def laws(path):
     """what the laws of traits and the invariants of types say that others can reach: `ghost NAME = { .. };` and `ghost NAME: { .. },`"""
-    found = ((re.match(r'\s+ghost \w+(?::| =) \{(.*)\}[,;]$', line), block) for line, block in blocks(path))
-    return '\n'.join(law.group(1) for law, block in found if law and block)
+    return '\n'.join(LAW.findall('\n'.join(line for line, block in blocks(path) if block)))
 
 
 def roots(modules):

@@ -1,5 +1,5 @@
 -- `clear` meets its contract: what sealing says decides, and the plan runs from the sealed sheet.
-use Rattle.std.proofs.Common.{ℕ, ◌≡◌, sym, ap₂, ◌∙◌, false, rules, length, ℤ, pos, w64, to_z-of_z}
+use Rattle.std.proofs.Common.{ℕ, ◌≡◌, sym, ap₂, ◌∙◌, false, rules, length, ℤ, pos, to_z-of_z}
 use Rattle.std.proofs.lemmas.Result.{err_from_is_err_and}
 use Rattle.definitions.specs.Answers.{is_none, unless}
 use Rattle.definitions.specs.Book.{Book, book, book_of}
@@ -79,21 +79,19 @@ sum_left c sum =
     let same = c.in_ok-counts.ensures.counts in
     rw (same.0, same.1, ran c) (sum_given (book_of c.args.book.now) c.args.sheet.now (sym c.in_ok-counts.ensures.refusal) sum)
 
--- an equation by way of a number
-through : {x z : ℤ} (y : ℤ) → x ≡ y → y ≡ z → x ≡ z
-through y one other = one ∙ other
-
 pub returns-clause-welfare : goal.returns-clause-welfare
 unfolding clear_welfare
 returns-clause-welfare c =
-    through c.welfare_of-sums.result.whole (search (rules, to_z-of_z))
-    (c.welfare_of-sums.ensures.whole c.args.book.now.capacities.now ∙ sum_left (goal.at.returns-clause-welfare c).After-run_plan-orders welfare)
+    search (rules, to_z-of_z)
+    ∙ c.welfare_of-sums.ensures.whole c.args.book.now.capacities.now
+    ∙ sum_left (goal.at.returns-clause-welfare c).After-run_plan-orders welfare
 
 pub returns-clause-sales_welfare : goal.returns-clause-sales_welfare
 unfolding clear_sales_welfare
 returns-clause-sales_welfare c =
-    through c.welfare_of-sums.result.sales (search (rules, to_z-of_z))
-    (c.welfare_of-sums.ensures.sales c.args.book.now.capacities.now ∙ sum_left (goal.at.returns-clause-sales_welfare c).After-run_plan-orders sales_welfare)
+    search (rules, to_z-of_z)
+    ∙ c.welfare_of-sums.ensures.sales c.args.book.now.capacities.now
+    ∙ sum_left (goal.at.returns-clause-sales_welfare c).After-run_plan-orders sales_welfare
 
 pub returns-clause-cells : goal.returns-clause-cells
 returns-clause-cells c =
